@@ -1,0 +1,48 @@
+-- 01, What is refused: the table's numbers. A refusal's place stands beside it in each answer.
+-- Assumes nothing.
+use Prim.Native.Nat.{ℕ}
+use Rattle.refusal.specs.declared.Why.{Why}
+use Rattle.refusal.specs.declared.Why.the-variants.{
+  CutShort,
+  NotShortest,
+  WrongVersion,
+  OutOfRange,
+  SavingNotBelow,
+  PowerBelowSavings,
+  LinkNotAbove,
+  BytesAfter,
+  Looped,
+  TooSlow,
+  NoBoard,
+  UnknownKind,
+  LinkThere,
+  LinkMissing,
+  LinksFull,
+  BufferShort,
+  NoPart,
+  TallyFull,
+  OffCurve,
+  NoLabel,
+}
+
+abbrev pub numberOf : Why → ℕ
+numberOf CutShort = 1  -- input ends within a number
+numberOf NotShortest = 2  -- last group promises another, or form not shortest
+numberOf WrongVersion = 3  -- version not 1
+numberOf OutOfRange = 4  -- number outside its field's range
+numberOf SavingNotBelow = 5  -- saving not below the run before
+numberOf PowerBelowSavings = 6  -- power below all savings together
+numberOf LinkNotAbove = 7  -- self-link; in a file also link not above the one before
+numberOf BytesAfter = 8  -- bytes after the design
+numberOf Looped = 9  -- loop
+numberOf TooSlow = 10  -- a path too slow at its fastest
+numberOf NoBoard = 11  -- no board held
+numberOf UnknownKind = 12  -- order kind not 1 to 4
+numberOf LinkThere = 13  -- link to add is there already
+numberOf LinkMissing = 14  -- link to remove is not there
+numberOf LinksFull = 15  -- 256 links already
+numberOf BufferShort = 16  -- buffer shorter than the file to write
+numberOf NoPart = 17  -- no such part on the board
+numberOf TallyFull = 18  -- tally's sum is 65,535 or more
+numberOf OffCurve = 19  -- delay outside the part's curve
+numberOf NoLabel = 20  -- sheet has no such line or no good label there
