@@ -1,0 +1,55 @@
+-- 01, The board: "Parts: 1 to 64, numbered from 0. Links: 0 to 256, from one part to another, no link twice, none from a part to itself, no loop.
+-- Links are held in ascending order of from, then to. A link has no delay. Deadline: 1 to 4,095 ticks."
+-- Assumes nothing.
+use mathlib.Core.Path.{_≡_}
+use mathlib.Core.Logic.{_≢_}
+use mathlib.Core.List.{List, []}
+use Prim.Native.Nat.{ℕ, suc, _+_, _*_, _≤_, _<_}
+use lib.ListN.{length, getD}
+use Rattle.theory.specs.Graph.{Graph}
+use Rattle.curve.specs.declared.Curve.{Curve}
+use Rattle.curve.specs.Curve.{Good, ticksOf, savingOf}
+use Rattle.board.specs.declared.Link.{Link}
+use Rattle.board.specs.declared.Board.{Board}
+
+-- places that hold no curve and no link
+abbrev pub noCurve : Curve
+noCurve = record { fastest = record { 0 = 0 }; power = record { 0 = 0 }; count = 0; runs = [] }
+
+abbrev pub noLink : Link
+noLink = record { from = 0; to = 0 }
+
+abbrev pub curveAt : Board → ℕ → Curve
+curveAt b p = getD (b .curve) p noCurve
+
+abbrev pub linkAt : Board → ℕ → Link
+linkAt b l = getD (b .link) l noLink
+
+-- the ticks that a path may take: all of the deadline
+unfoldable pub usable : Board → ℕ
+usable b = b .deadline .0
+
+-- the board as mathematics: "A link has no delay"
+unfoldable pub view : Board → Graph
+view b = record {
+  parts = b .parts;
+  links = b .links;
+  from = λ l. linkAt b l .from;
+  to = λ l. linkAt b l .to;
+  wire = λ l. 0;
+  fastest = λ p. curveAt b p .fastest .0;
+  ticks = λ p. ticksOf (curveAt b p);
+  saving = λ p. savingOf (curveAt b p);
+  power = λ p. curveAt b p .power .0;
+}
+
+-- a link leads from part p to part q
+pub record Linked (b : Board) (p q : ℕ) : Type 0 where
+  pub link : ℕ
+  pub here : link < b .links
+  pub from : linkAt b link .from ≡ p
+  pub to : linkAt b link .to ≡ q
+
+-- a link's number in the order of from, then to
+abbrev pub order : Link → ℕ
+order l = l .from * 64 + l .to

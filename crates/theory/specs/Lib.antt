@@ -1,0 +1,4 @@
+pub mod Sum
+pub mod Saving
+pub mod Graph
+pub mod Budget
