@@ -5,10 +5,10 @@ use mathlib.Core.Path.{_≡_}
 use mathlib.Core.Logic.{_≢_}
 use mathlib.Core.List.{List, []}
 use Prim.Native.Nat.{ℕ, suc, _+_, _*_, _≤_, _<_}
-use lib.ListN.{length, getD}
+use lib.ListN.{length, getD, replicate}
 use Rattle.theory.specs.Graph.{Graph}
 use Rattle.curve.specs.declared.Curve.{Curve}
-use Rattle.curve.specs.Curve.{Good, ticksOf, savingOf}
+use Rattle.curve.specs.Curve.{Good, noRun, ticksOf, savingOf}
 use Rattle.board.specs.declared.Link.{Link}
 use Rattle.board.specs.declared.Board.{Board}
 
@@ -53,3 +53,26 @@ pub record Linked (b : Board) (p q : ℕ) : Type 0 where
 -- a link's number in the order of from, then to
 abbrev pub order : Link → ℕ
 order l = l .from * 64 + l .to
+
+-- a curve that a place without a part holds
+unfoldable pub blankCurve : Curve
+blankCurve = record { fastest = record { 0 = 0 }; power = record { 0 = 0 }; count = 0; runs = replicate 4 noRun }
+
+-- what 01 asks of a board, but for loops. Places past the last part and link are blank, so that equal boards are equal values.
+pub record WellFormed (b : Board) : Type 0 where
+  pub deadline-from : 1 ≤ b .deadline .0
+  pub deadline-to : b .deadline .0 ≤ 4095
+  pub parts-from : 1 ≤ b .parts
+  pub parts-to : b .parts ≤ 64
+  pub curves : (p : ℕ) → p < b .parts → Good (curveAt b p)
+  pub links-to : b .links ≤ 256
+  pub from-in : (l : ℕ) → l < b .links → linkAt b l .from < b .parts
+  pub to-in : (l : ℕ) → l < b .links → linkAt b l .to < b .parts
+  -- "none from a part to itself"
+  pub apart : (l : ℕ) → l < b .links → linkAt b l .from ≢ linkAt b l .to
+  -- "no link twice"; "held in ascending order of from, then to"
+  pub ascends : (l : ℕ) → suc l < b .links → order (linkAt b l) < order (linkAt b (suc l))
+  pub blank-curves : (p : ℕ) → b .parts ≤ p → p < 64 → curveAt b p ≡ blankCurve
+  pub blank-links : (l : ℕ) → b .links ≤ l → l < 256 → linkAt b l ≡ noLink
+  pub curve-room : length (b .curve) ≡ 64
+  pub link-room : length (b .link) ≡ 256

@@ -3,7 +3,7 @@
 use mathlib.Core.Path.{_≡_}
 use mathlib.Core.List.{List}
 use Prim.Native.Nat.{ℕ, suc, _+_, _*_, _-_, _≤_, _<_}
-use lib.ListN.{getD}
+use lib.ListN.{length, getD}
 use Rattle.theory.specs.Sum.{sum}
 use Rattle.theory.specs.Saving.{saves, tick}
 use Rattle.curve.specs.declared.Ticks.{Ticks}
@@ -60,3 +60,4 @@ pub record Good (c : Curve) : Type 0 where
   -- "The power is at least all savings together."
   pub affords : savingsOf c ≤ c .power .0
   pub blank : (i : ℕ) → c .count ≤ i → i < 4 → runAt c i ≡ noRun
+  pub room : length (c .runs) ≡ 4

@@ -45,6 +45,12 @@ module _ (G : Graph) where
     pub falls : (p : ℕ) → p < G .parts → Falling (G .saving p)
     pub affords : (p : ℕ) → p < G .parts → saves (G .saving p) (G .ticks p) ≤ G .power p
 
+  -- no loop, as a number of each part that rises along every link
+  pub record Ranked (top : ℕ) : Type 0 where
+    pub rank : ℕ → ℕ
+    pub rises : (l : ℕ) → l < G .links → rank (G .from l) < rank (G .to l)
+    pub below : (p : ℕ) → p < G .parts → rank p < top
+
   -- the times keep the usable deadline T
   pub record Feasible (T : ℕ) (τ : Times) : Type 0 where
     pub spans : (p : ℕ) → p < G .parts → τ .start p + (G .fastest p + τ .used p) ≡ τ .end p
