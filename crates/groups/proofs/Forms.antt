@@ -64,7 +64,7 @@ pub encode-more : (n : ℕ) → 128 ≤ n → n < limit → encode n ≡ (n % 12
 encode-more n large less =
     let less′ : n / 128 < limit = omega arith in
     let same : encodeIn (groups - 1) (n / 128) ≡ encode (n / 128) =
-      in-enough (groups - 1) groups (n / 128) (omega arith) (omega arith) (rest-less (groups - 1) n less) less′ ∙ sym (encode-is (n / 128) less′) in
+    in-enough (groups - 1) groups (n / 128) (omega arith) (omega arith) (rest-less (groups - 1) n less) less′ ∙ sym (encode-is (n / 128) less′) in
     encode-is n less ∙ in-more (groups - 1) n large ∙ ap (λ (l : List ℕ). (n % 128 + 128) ∷ l) same
 
 -- "at most three groups"
