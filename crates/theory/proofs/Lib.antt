@@ -6,3 +6,6 @@ pub mod TotalLaws
 pub mod ArriveLaws
 pub mod TimedLaws
 pub mod Rounds
+pub mod Duality
+pub mod ValueBounds
+pub mod Earliest
