@@ -9,3 +9,11 @@ pub mod Rounds
 pub mod Duality
 pub mod ValueBounds
 pub mod Earliest
+pub mod Finding
+pub mod LeastTimes
+pub mod Lowering
+pub mod Pushing
+pub mod Trail
+pub mod Search
+pub mod StrongDuality
+pub mod Existence
