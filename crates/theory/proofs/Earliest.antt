@@ -44,18 +44,17 @@ module _ (G : Graph) where
     unfolding saved press
     press-saved = sum-ext parts (λ p h. saves-min (saving p) (ticks p) (o .past p h) (τ .used p))
 
-  -- ---- "there is exactly one": two held budgets are alike at every part, and so are their totals
+  -- ---- "there is exactly one": two held budgets have one total, and are alike at every part
+  pub held-total-once : {T : ℕ} {τ τ′ : Times} → Held G T τ → Held G T τ′ → total G τ ≡ total G τ′
+  held-total-once {T} {τ} {τ′} a b = omega (arith, a .least τ′ (b .budget), b .least τ (a .budget))
+
   pub held-once :
       Lawful G → {T : ℕ} {τ τ′ : Times} → Held G T τ → Held G T τ′ → (p : ℕ) → p < parts →
       (τ .start p ≡ τ′ .start p) × (τ .end p ≡ τ′ .end p) × (τ .used p ≡ τ′ .used p)
   held-once o {T} {τ} {τ′} a b p h =
+      let same = held-total-once a b in
       let ends : (q : ℕ) → q < parts → τ .end q ≡ τ′ .end q =
-      λ q k.
-      omega (
-        arith,
-        a .first τ′ (b .budget) (b .least τ (a .budget)) q k,
-        b .first τ (a .budget) (a .least τ′ (b .budget)) q k,
-      ) in
+      λ q k. omega (arith, a .first τ′ (b .budget) (omega arith) q k, b .first τ (a .budget) (omega arith) q k) in
       let starts : τ .start p ≡ τ′ .start p =
       omega (
         arith,
@@ -64,9 +63,6 @@ module _ (G : Graph) where
         arrive-ext G (τ .end) (τ′ .end) p (λ l k q. ends (from l) (o .from-in l k)),
       ) in
       (starts, ends p h, omega (arith, starts, ends p h, a .budget .spans p h, b .budget .spans p h))
-
-  pub held-total-once : {T : ℕ} {τ τ′ : Times} → Held G T τ → Held G T τ′ → total G τ ≡ total G τ′
-  held-total-once {T} {τ} {τ′} a b = omega (arith, a .least τ′ (b .budget), b .least τ (a .budget))
 
   module _ (o : Lawful G) (φ : Flow) (c : Conserves G φ) {T : ℕ} {τ : Times} (f : Feasible G T τ) (k : Slack G T τ φ) where
     -- ---- the least times that are slack with a flow
@@ -92,6 +88,6 @@ module _ (G : Graph) where
       pub earliest-held : Held G T τ
       earliest-held = record {
         budget = earliest-budget;
-        least = λ τ′ b. cheapest-total G o φ c f k (budget-feasible G o b);
+        least = λ τ′ b. omega (arith, cheapest-total G o φ c f k (budget-feasible G o b));
         first = λ τ′ b same. earliest (budget-feasible G o b) (omega (arith, total-saved G o τ, total-saved G o τ′)) .end-le;
       }

@@ -1,5 +1,5 @@
--- The least schedule that is slack with a flow. A flow asks of each start and end that it be no earlier than another allows; times are
--- raised one by one, never past a schedule that is slack, until nothing is asked for any more.
+-- The least times that are slack with a flow. A flow asks of each start and end that it be no earlier than another allows; times are
+-- raised one by one, never past any that are slack, until nothing is asked for any more.
 -- Assumes nothing.
 use mathlib.Core.Path.{ap}
 use mathlib.Core.Bool.{cond}
@@ -15,7 +15,7 @@ use Rattle.theory.specs.Graph.{Graph, Times, Flow, Lawful, Feasible, Sla
 use Rattle.theory.specs.Budget.{NoLater}
 use Rattle.theory.proofs.Finding.{found, none, look, dec-and, bump, bump-more}
 
--- ---- how many of the first k ticks, those before one that does not, save more than x
+-- ---- how many of the first k ticks save more than x, where savings fall
 unfoldable pub above : (ℕ → ℕ) → ℕ → ℕ → ℕ
 above g zero x = 0
 above g (suc k) x = cond (ltb x (g k)) (suc k) (above g k x)
@@ -67,7 +67,7 @@ module _ (G : Graph) (T : ℕ) (φ : Flow) where
   unfoldable pub fill : Times → Times
   fill τ = record { start = τ .start; end = τ .end; used = λ p. τ .end p - (τ .start p + fastest p) }
 
-  -- no later than any schedule that is slack
+  -- no later than any times that are slack
   abbrev pub Under : Times → Type 0
   Under τ = (τ′ : Times) → Feasible G T τ′ → Slack G T τ′ φ → NoLater G τ τ′
 
@@ -156,7 +156,7 @@ module _ (G : Graph) (T : ℕ) (φ : Flow) where
       at-most : {a b : ℕ} → (a < b → ⊥) → b ≤ a
       at-most h = omega arith
 
-      -- what is asked is there, or a time is too early for every schedule that is slack
+      -- what is asked is there, or a start or end is earlier than in all times that are slack
       data Next (τ : Times) : Type 0 where
         there : Asks τ → Next τ
         early-start : (p : ℕ) → p < parts → ((τ′ : Times) → Feasible G T τ′ → Slack G T τ′ φ → τ .start p < τ′ .start p) → Next τ
@@ -214,7 +214,7 @@ module _ (G : Graph) (T : ℕ) (φ : Flow) where
                 (omega (arith, sum-more h (bump-more parts (τ .end) p)))
           ]
 
-      -- THE LEAST. Where some schedule is slack with a flow, there is a least one.
+      -- THE LEAST. Where some times are slack with a flow, there are least ones.
       pub least : (τ : Times) × Feasible G T τ × Slack G T τ φ × Under τ
       unfolding fill
       least =

@@ -1,4 +1,4 @@
--- Carrying load from one node to another. A part has two nodes, its start and its end; the board has a source and a sink.
+-- Carrying load from one node to another. A part has two nodes, its start and its end; the graph has a source and a sink.
 -- Each arc that a push runs along carries b units from its first node to its second, and what carries from the source to the sink conserves.
 -- Assumes nothing.
 use mathlib.Core.Path.{_≡_, refl, sym, _∙_}

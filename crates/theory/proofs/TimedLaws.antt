@@ -1,5 +1,5 @@
--- The starts and ends of given delays: there is one such schedule, it is the earliest, and with delays in range it is a budget.
--- Whether a deadline can be kept is then seen from the schedule with all parts at their fastest.
+-- The starts and ends of given delays: delays have at most one, none are earlier, and with delays in range they are a budget.
+-- Whether a deadline can be kept is then seen from all parts at their fastest.
 -- Assumes nothing.
 use mathlib.Core.Path.{_≡_, sym, ap, _∙_}
 use Prim.Native.Nat.{ℕ, zero, suc, _+_, _≤_, _<_}
@@ -12,7 +12,7 @@ use Rattle.theory.proofs.ArriveLaws.{arrive-ge, arrive-le, arrive-ext}
 module _ (G : Graph) where
   open Graph G using (parts, links, from, to, wire, fastest, ticks)
 
-  -- ---- delays have one schedule: on a graph with no loop a part's start goes by the starts of parts with lower ranks
+  -- ---- delays have one start and end for each part: on a graph with no loop a part's start goes by the starts of parts with lower ranks
   module _ (o : Lawful G) {top : ℕ} (r : Ranked G top) {delay s e s′ e′ : ℕ → ℕ} (t : Timed G delay s e) (t′ : Timed G delay s′ e′) where
     end-once : (p : ℕ) → p < parts → s p ≡ s′ p → e p ≡ e′ p
     end-once p h q = omega (arith, t .ends p h, t′ .ends p h)
@@ -32,7 +32,7 @@ module _ (G : Graph) where
         let same = start-once (suc (r .rank p)) p h (omega arith) in
         (same, end-once p h same)
 
-  -- ---- it is no later than any times in which each part takes as long or longer
+  -- ---- no later than any times in which each part takes as long or longer
   module _ (o : Lawful G) {delay s e : ℕ → ℕ} (t : Timed G delay s e) {T : ℕ} {τ : Times} (f : Feasible G T τ)
       (long : (p : ℕ) → p < parts → delay p ≤ fastest p + τ .used p)
     where
@@ -57,7 +57,7 @@ module _ (G : Graph) where
           let first = start-first (suc (τ .end p)) p h (omega arith) in
           (first, end-first p h first)
 
-  -- ---- a budget is the schedule of delays from the fastest to the slowest, and keeps the deadline
+  -- ---- a budget: delays from the fastest to the slowest, and ends within the deadline
   pub budget-timed : {T : ℕ} {τ : Times} → Budget G T τ → Timed G (λ p. fastest p + τ .used p) (τ .start) (τ .end)
   budget-timed b = record { starts = b .at-once; ends = λ p h. sym (b .spans p h) }
 

@@ -1,5 +1,5 @@
 -- Pushing b units along a path that is walked back from the sink, as code does that keeps each node's way back.
--- Nodes have numbers, the order in which they were labelled: `os p` of p's start and `oe p` of its end. They fall on the way back, so the
+-- Nodes have numbers, the order in which they were labelled: `start-turn p` of p's start and `end-turn p` of its end. They fall on the way back, so the
 -- loads of the arcs still to come are as they were, and room that was there before the first push is there still.
 -- Assumes nothing.
 use mathlib.Core.Path.{_≡_, refl, sym, ap, _∙_}
