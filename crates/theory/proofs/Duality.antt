@@ -63,7 +63,8 @@ module _ (G : Graph) (o : Lawful G) (φ : Flow) (c : Conserves G φ) (T : ℕ) (
         arith,
         weigh parts links from link exit part end (o .from-in) (λ p h. omega (arith, c .leaves p h)),
         weigh parts links to link entry part start (o .to-in) (λ p h. omega (arith, c .arrives p h)),
-        sum-ext parts {f = λ p. end p * part p} {g = λ p. start p * part p + fastest p * part p + used p * part p} (λ p h. ap (λ k. k * part p) (sym (f .spans p h)) ∙ omega arith),
+        sum-ext parts {f = λ p. end p * part p} {g = λ p. start p * part p + fastest p * part p + used p * part p}
+            (λ p h. ap (λ k. k * part p) (sym (f .spans p h)) ∙ omega arith),
         sum-add parts (λ p. start p * part p + fastest p * part p) (λ p. used p * part p),
         sum-add parts (λ p. start p * part p) (λ p. fastest p * part p),
         sum-ext links {f = early} {g = λ l. end (from l) * link l + wire l * link l} (λ l h. omega arith),

@@ -12,6 +12,7 @@ use Rattle.theory.proofs.Duality.{cheapest-total, cheapest-slack}
 use Rattle.theory.specs.Budget.{arrive, NoLater, Budget, Held}
 use Rattle.theory.proofs.ArriveLaws.{arrive-ge, arrive-le, arrive-ext}
 use Rattle.theory.proofs.TimedLaws.{budget-feasible}
+use Rattle.theory.proofs.Alike.{Alike}
 
 module _ (G : Graph) where
   open Graph G using (parts, from, fastest, ticks, saving)
@@ -48,21 +49,24 @@ module _ (G : Graph) where
   pub held-total-once : {T : ℕ} {τ τ′ : Times} → Held G T τ → Held G T τ′ → total G τ ≡ total G τ′
   held-total-once {T} {τ} {τ′} a b = omega (arith, a .least τ′ (b .budget), b .least τ (a .budget))
 
-  pub held-once :
-      Lawful G → {T : ℕ} {τ τ′ : Times} → Held G T τ → Held G T τ′ → (p : ℕ) → p < parts →
-      (τ .start p ≡ τ′ .start p) × (τ .end p ≡ τ′ .end p) × (τ .used p ≡ τ′ .used p)
-  held-once o {T} {τ} {τ′} a b p h =
+  pub held-once : Lawful G → {T : ℕ} {τ τ′ : Times} → Held G T τ → Held G T τ′ → Alike G τ τ′
+  held-once o {T} {τ} {τ′} a b =
       let same = held-total-once a b in
-      let ends : (q : ℕ) → q < parts → τ .end q ≡ τ′ .end q =
-      λ q k. omega (arith, a .first τ′ (b .budget) (omega arith) q k, b .first τ (a .budget) (omega arith) q k) in
-      let starts : τ .start p ≡ τ′ .start p =
+      let ends : (p : ℕ) → p < parts → τ .end p ≡ τ′ .end p =
+      λ p h. omega (arith, a .first τ′ (b .budget) (omega arith) p h, b .first τ (a .budget) (omega arith) p h) in
+      let starts : (p : ℕ) → p < parts → τ .start p ≡ τ′ .start p =
+      λ p h.
       omega (
         arith,
         a .budget .at-once p h,
         b .budget .at-once p h,
         arrive-ext G (τ .end) (τ′ .end) p (λ l k q. ends (from l) (o .from-in l k)),
       ) in
-      (starts, ends p h, omega (arith, starts, ends p h, a .budget .spans p h, b .budget .spans p h))
+      record {
+        start-eq = starts;
+        end-eq = ends;
+        used-eq = λ p h. omega (arith, starts p h, ends p h, a .budget .spans p h, b .budget .spans p h);
+      }
 
   module _ (o : Lawful G) (φ : Flow) (c : Conserves G φ) {T : ℕ} {τ : Times} (f : Feasible G T τ) (k : Slack G T τ φ) where
     -- ---- the least times that are slack with a flow

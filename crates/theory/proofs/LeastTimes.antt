@@ -8,7 +8,7 @@ use native.Mathlib.Decide.{ℕ-discrete, decLe, decLt}
 use native.Mathlib.Omega.{arith}
 use lib.Dec.{ltb}
 use borrow.Author.Tests.{lt-ltb, le-ltb}
-use Rattle.theory.specs.Sum.{sum, share}
+use Rattle.theory.specs.Sum.{sum}
 use Rattle.theory.proofs.SumLaws.{sum-le, sum-more, share-eq, share-ne, below-suc}
 use Rattle.theory.specs.Saving.{Suits, Falling}
 use Rattle.theory.specs.Graph.{Graph, Times, Flow, Lawful, Feasible, Slack}
@@ -44,6 +44,11 @@ module _ {g : ℕ → ℕ} (falls : Falling g) (x : ℕ) where
             below-suc {P = λ j. above g k x ≤ j → g j ≤ x} (λ j l. above-less k j l) (λ h. b) j l h′
       ]
 
+  -- nor do any more, where ticks from k on save nothing
+  pub above-rest : (k : ℕ) → ((j : ℕ) → k ≤ j → g j ≡ 0) → (j : ℕ) → above g k x ≤ j → g j ≤ x
+  above-rest k past j h =
+      elim (decLt j k) [ yes l ↦ above-less k j l h | no l ↦ omega (arith, past j (omega arith)) ]
+
 module _ (G : Graph) (T : ℕ) (φ : Flow) where
   open Graph G using (parts, links, from, to, wire, fastest, ticks, saving)
   open Flow φ using (part, link, entry, exit)
@@ -75,19 +80,11 @@ module _ (G : Graph) (T : ℕ) (φ : Flow) where
     module _ (p : ℕ) (h : p < parts) where
       past-fewest : (j : ℕ) → fewest p ≤ j → saving p j ≤ part p
       unfolding fewest
-      past-fewest j l =
-          elim (decLt j (ticks p)) [
-            | yes a ↦ above-less (o .falls p h) (part p) (ticks p) j a l
-            | no a ↦ omega (arith, o .past p h j (omega arith))
-          ]
+      past-fewest = above-rest (o .falls p h) (part p) (ticks p) (o .past p h)
 
       past-most : (j : ℕ) → most p ≤ j → saving p j ≤ pred (part p)
       unfolding most
-      past-most j l =
-          elim (decLt j (ticks p)) [
-            | yes a ↦ above-less (o .falls p h) (pred (part p)) (ticks p) j a l
-            | no a ↦ omega (arith, o .past p h j (omega arith))
-          ]
+      past-most = above-rest (o .falls p h) (pred (part p)) (ticks p) (o .past p h)
 
       suits-fewest : (t : ℕ) → Suits (saving p) t (part p) → fewest p ≤ t
       unfolding fewest
@@ -192,7 +189,9 @@ module _ (G : Graph) (T : ℕ) (φ : Flow) where
           ]
 
       -- k bounds the raises that are left
-      raise : (k : ℕ) (τ : Times) → Under τ → sum parts (τ₁ .start) + sum parts (τ₁ .end) ≤ sum parts (τ .start) + sum parts (τ .end) + k → (τ′ : Times) × Under τ′ × Asks τ′
+      raise :
+          (k : ℕ) (τ : Times) → Under τ → sum parts (τ₁ .start) + sum parts (τ₁ .end) ≤ sum parts (τ .start) + sum parts (τ .end) + k →
+          (τ′ : Times) × Under τ′ × Asks τ′
       unfolding raise-start raise-end
       raise zero τ u less =
           let top = u τ₁ f₁ k₁ in

@@ -11,7 +11,7 @@ use Rattle.theory.proofs.SumLaws.{share-eq, share-ne, more-there, into-
 use Rattle.theory.proofs.SavingLaws.{suits-next-to}
 use Rattle.theory.specs.Graph.{Graph, Times, Flow, Lawful, Conserves, Slack, value}
 
--- ---- nodes
+-- ---- nodes: even numbers for starts, odd ones for ends; those past the last part are the source and the sink
 abbrev pub start-of : ℕ → ℕ
 start-of p = 2 * p
 
@@ -59,9 +59,11 @@ module _ (G : Graph) where
   -- φ′ is φ with b units carried from node u to node v: each node of a part has as much more coming in than going out as v gets and u gives
   pub record Carries (φ φ′ : Flow) (u v b : ℕ) : Type 0 where
     pub at-start : (p : ℕ) → p < parts →
-        into links to (φ′ .link) p + φ′ .entry p + φ .part p + share u (start-of p) b ≡ into links to (φ .link) p + φ .entry p + φ′ .part p + share v (start-of p) b
+        into links to (φ′ .link) p + φ′ .entry p + φ .part p + share u (start-of p) b
+        ≡ into links to (φ .link) p + φ .entry p + φ′ .part p + share v (start-of p) b
     pub at-end : (p : ℕ) → p < parts →
-        φ′ .part p + (into links from (φ .link) p + φ .exit p) + share u (end-of p) b ≡ φ .part p + (into links from (φ′ .link) p + φ′ .exit p) + share v (end-of p) b
+        φ′ .part p + (into links from (φ .link) p + φ .exit p) + share u (end-of p) b
+        ≡ φ .part p + (into links from (φ′ .link) p + φ′ .exit p) + share v (end-of p) b
 
   -- what carries from the source to the sink conserves
   pub carries-conserves : {φ φ′ : Flow} {b : ℕ} → Conserves G φ → Carries φ φ′ source sink b → Conserves G φ′

@@ -1,9 +1,8 @@
 -- The starts and ends of given delays: delays have at most one, none are earlier, and with delays in range they are a budget.
 -- Whether a deadline can be kept is then seen from all parts at their fastest.
 -- Assumes nothing.
-use mathlib.Core.Path.{_≡_, sym, ap, _∙_}
+use mathlib.Core.Path.{_≡_, sym, ap}
 use Prim.Native.Nat.{ℕ, zero, suc, _+_, _≤_, _<_}
-use native.Mathlib.Nat.{add-zero}
 use native.Mathlib.Omega.{arith}
 use Rattle.theory.specs.Graph.{Graph, Times, Lawful, Ranked, Feasible}
 use Rattle.theory.specs.Budget.{arrive, Timed, NoLater, Budget}
