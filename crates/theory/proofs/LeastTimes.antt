@@ -1,7 +1,7 @@
 -- The least times that are slack with a flow. A flow asks of each start and end that it be no earlier than another allows; times are
 -- raised one by one, never past any that are slack, until nothing is asked for any more.
 -- Assumes nothing.
-use mathlib.Core.Path.{ap}
+use mathlib.Core.Path.{_≡_, ap}
 use mathlib.Core.Bool.{cond}
 use Prim.Native.Nat.{ℕ, zero, suc, pred, _+_, _-_, _≤_, _<_}
 use native.Mathlib.Decide.{ℕ-discrete, decLe, decLt}
@@ -13,7 +13,7 @@ use Rattle.theory.proofs.SumLaws.{sum-le, sum-more, share-eq, share-ne,
 use Rattle.theory.specs.Saving.{Suits, Falling}
 use Rattle.theory.specs.Graph.{Graph, Times, Flow, Lawful, Feasible, Slack}
 use Rattle.theory.specs.Budget.{NoLater}
-use Rattle.theory.proofs.Finding.{found, none, look, dec-and, bump, bump-more}
+use Rattle.theory.proofs.Finding.{look-for, dec-and, bump, bump-more}
 
 -- ---- how many of the first k ticks save more than x, where savings fall
 unfoldable pub above : (ℕ → ℕ) → ℕ → ℕ → ℕ
@@ -161,32 +161,28 @@ module _ (G : Graph) (T : ℕ) (φ : Flow) where
 
       next : (τ : Times) → Under τ → Next τ
       next τ u =
-          elim (look parts (λ p. decLt (τ .end p) (τ .start p + (fastest p + fewest p)))) [
-            | found p h a ↦ early-end p h (λ τ′ f k. omega (arith, slack-asks f k .long p h, u τ′ f k .start-le p h))
-            | none n₁ ↦
-                elim (look parts (λ p. dec-and (decLt 0 (part p)) (decLt (τ .start p + (fastest p + most p)) (τ .end p)))) [
-                  | found p h a ↦ early-start p h (λ τ′ f k. omega (arith, slack-asks f k .brief p h (a .0), u τ′ f k .end-le p h))
-                  | none n₂ ↦
-                      elim (look links (λ l. decLt (τ .start (to l)) (τ .end (from l) + wire l))) [
-                        | found l h a ↦ early-start (to l) (o .to-in l h) (λ τ′ f k. omega (arith, f .waits l h, u τ′ f k .end-le (from l) (o .from-in l h)))
-                        | none n₃ ↦
-                            elim (look links (λ l. dec-and (decLt 0 (link l)) (decLt (τ .end (from l) + wire l) (τ .start (to l))))) [
-                              | found l h a ↦ early-end (from l) (o .from-in l h) (λ τ′ f k. omega (arith, k .tight l h (a .0), u τ′ f k .start-le (to l) (o .to-in l h)))
-                              | none n₄ ↦
-                                  elim (look parts (λ p. dec-and (decLt 0 (exit p)) (decLt (τ .end p) T))) [
-                                    | found p h a ↦ early-end p h (λ τ′ f k. omega (arith, k .stops p h (a .0)))
-                                    | none n₅ ↦ there record {
-                                      long = λ p h. at-most (n₁ p h);
-                                      brief = λ p h y. at-most (λ z. n₂ p h (y, z));
-                                      waits = λ l h. at-most (n₃ l h);
-                                      pulls = λ l h y. at-most (λ z. n₄ l h (y, z));
-                                      stops = λ p h y. at-most (λ z. n₅ p h (y, z));
-                                    }
-                                  ]
-                            ]
-                      ]
-                ]
-          ]
+          look-for parts (λ p. decLt (τ .end p) (τ .start p + (fastest p + fewest p)))
+          (λ p h a. early-end p h (λ τ′ f k. omega (arith, slack-asks f k .long p h, u τ′ f k .start-le p h)))
+          (λ n₁.
+          look-for parts (λ p. dec-and (decLt 0 (part p)) (decLt (τ .start p + (fastest p + most p)) (τ .end p)))
+          (λ p h a. early-start p h (λ τ′ f k. omega (arith, slack-asks f k .brief p h (a .0), u τ′ f k .end-le p h)))
+          (λ n₂.
+          look-for links (λ l. decLt (τ .start (to l)) (τ .end (from l) + wire l))
+          (λ l h a. early-start (to l) (o .to-in l h) (λ τ′ f k. omega (arith, f .waits l h, u τ′ f k .end-le (from l) (o .from-in l h))))
+          (λ n₃.
+          look-for links (λ l. dec-and (decLt 0 (link l)) (decLt (τ .end (from l) + wire l) (τ .start (to l))))
+          (λ l h a. early-end (from l) (o .from-in l h) (λ τ′ f k. omega (arith, k .tight l h (a .0), u τ′ f k .start-le (to l) (o .to-in l h))))
+          (λ n₄.
+          look-for parts (λ p. dec-and (decLt 0 (exit p)) (decLt (τ .end p) T))
+          (λ p h a. early-end p h (λ τ′ f k. omega (arith, k .stops p h (a .0))))
+          (λ n₅.
+          there record {
+            long = λ p h. at-most (n₁ p h);
+            brief = λ p h y. at-most (λ z. n₂ p h (y, z));
+            waits = λ l h. at-most (n₃ l h);
+            pulls = λ l h y. at-most (λ z. n₄ l h (y, z));
+            stops = λ p h y. at-most (λ z. n₅ p h (y, z));
+          })))))
 
       -- k bounds the raises that are left
       raise :
@@ -197,8 +193,12 @@ module _ (G : Graph) (T : ℕ) (φ : Flow) where
           let top = u τ₁ f₁ k₁ in
           elim (next τ u) [
             | there a ↦ (τ, u, a)
-            | early-start p h a ↦ absurd (omega (arith, sum-le parts (bump-le p (top .start-le) (a τ₁ f₁ k₁)), sum-le parts (top .end-le), sum-more h (bump-more parts (τ .start) p)))
-            | early-end p h a ↦ absurd (omega (arith, sum-le parts (top .start-le), sum-le parts (bump-le p (top .end-le) (a τ₁ f₁ k₁)), sum-more h (bump-more parts (τ .end) p)))
+            | early-start p h a ↦
+                let higher = sum-le parts (bump-le p (top .start-le) (a τ₁ f₁ k₁)) in
+                absurd (omega (arith, higher, sum-le parts (top .end-le), sum-more h (bump-more parts (τ .start) p)))
+            | early-end p h a ↦
+                let higher = sum-le parts (bump-le p (top .end-le) (a τ₁ f₁ k₁)) in
+                absurd (omega (arith, higher, sum-le parts (top .start-le), sum-more h (bump-more parts (τ .end) p)))
           ]
       raise (suc k) τ u less =
           elim (next τ u) [
@@ -218,7 +218,8 @@ module _ (G : Graph) (T : ℕ) (φ : Flow) where
       unfolding fill
       least =
           let zeros : Times = record { start = λ p. 0; end = λ p. 0; used = λ p. 0 } in
-          let r = raise (sum parts (τ₁ .start) + sum parts (τ₁ .end)) zeros (λ τ′ f k. record { start-le = λ p h. omega arith; end-le = λ p h. omega arith }) (omega arith) in (
+          let under : Under zeros = λ τ′ f k. record { start-le = λ p h. omega arith; end-le = λ p h. omega arith } in
+          let r = raise (sum parts (τ₁ .start) + sum parts (τ₁ .end)) zeros under (omega arith) in (
             fill (r .0),
             least-feasible (r .1) (r .2),
             least-slack (r .1) (r .2),
