@@ -34,7 +34,7 @@ module _ (G : Graph) (o : Lawful G) where
       × (((p : ℕ) → p < G .parts → e p ≤ T) → (τ : Times) × Held G T τ)
   held-possible t = (
     (λ k. fastest-fits G o t (budget-feasible G o (k .1 .budget))),
-    (λ ends. held-is (budget-feasible G o (fastest-budget G o t ends))),
+    (λ ends. held-is (budget-feasible G o (fastest-budget G t ends))),
   )
 
   -- it draws least of all times that keep the deadline, those in which parts wait too

@@ -85,7 +85,7 @@ module _ (G : Graph) (o : Lawful G) where
       {F T : ℕ} {τ τ⁰ : Times} → Feasible G F τ → Feasible G T τ⁰ → T < F → (φ : Flow) → Conserves G φ → Slack G F τ φ → value G φ ≤ tops G
   value-tops {F} {T} f f⁰ below φ c k =
       let t = timed-is G fastest (feasible-ranked G o f⁰) in
-      let quick = budget-feasible G o (fastest-budget G o t (fastest-fits G o t f⁰)) in
+      let quick = budget-feasible G o (fastest-budget G t (fastest-fits G o t f⁰)) in
       omega (
         arith,
         value-saved φ c f k {T = pred F} (omega arith) (hasten-feasible f quick below),
