@@ -68,8 +68,12 @@ module _ (G : Graph) where
   -- what carries from the source to the sink conserves
   pub carries-conserves : {φ φ′ : Flow} {b : ℕ} → Conserves G φ → Carries φ φ′ source sink b → Conserves G φ′
   carries-conserves {φ} {φ′} {b} c k = record {
-    arrives = λ p h. omega (arith, c .arrives p h, k .at-start p h, share-starts parts p b, share-ne {p = parts} {i = p} b (omega arith), share-end-start parts p b);
-    leaves = λ p h. omega (arith, c .leaves p h, k .at-end p h, share-start-end parts p b, share-ends parts p b, share-ne {p = parts} {i = p} b (omega arith));
+    arrives = λ p h.
+        let apart = share-ne {p = parts} {i = p} b (omega arith) in
+        omega (arith, c .arrives p h, k .at-start p h, share-starts parts p b, share-end-start parts p b);
+    leaves = λ p h.
+        let apart = share-ne {p = parts} {i = p} b (omega arith) in
+        omega (arith, c .leaves p h, k .at-end p h, share-start-end parts p b, share-ends parts p b);
   }
 
   -- one after the other, from either end
@@ -126,7 +130,9 @@ module _ (G : Graph) where
       through :
           {φ : Flow} {x : ℕ → ℕ} {q : ℕ} → q < parts → More parts (φ .part) x q b → ((j : ℕ) → suc j ≡ used q → x q ≤ saving q j) →
           Push φ (with-part φ x) (start-of q) (end-of q)
-      back : {φ : Flow} {x : ℕ → ℕ} {q : ℕ} → q < parts → More parts x (φ .part) q b → saving q (used q) ≤ x q → Push φ (with-part φ x) (end-of q) (start-of q)
+      back :
+          {φ : Flow} {x : ℕ → ℕ} {q : ℕ} → q < parts → More parts x (φ .part) q b → saving q (used q) ≤ x q →
+          Push φ (with-part φ x) (end-of q) (start-of q)
       along :
           {φ : Flow} {y : ℕ → ℕ} {q : ℕ} → q < links → More links (φ .link) y q b → end (from q) + wire q ≡ start (to q) →
           Push φ (with-link φ y) (end-of (from q)) (start-of (to q))
@@ -213,7 +219,9 @@ module _ (G : Graph) where
       push-value (through {q = q} h d r) = (omega arith, omega (arith, share-ne {p = end-of q} {i = sink} b (omega arith)))
       push-value (back {q = q} h d r) = (omega arith, omega (arith, share-start-end q parts b))
       push-value (along {q = q} h d r) = (omega (arith, o .from-in q h), omega (arith, share-start-end (to q) parts b))
-      push-value (against {q = q} h d) = (omega arith, omega (arith, o .from-in q h, share-ne {p = end-of (from q)} {i = sink} b (omega (arith, o .from-in q h))))
+      push-value (against {q = q} h d) =
+          let i = o .from-in q h in
+          (omega arith, omega (arith, share-ne {p = end-of (from q)} {i = sink} b (omega arith)))
       push-value (enter {q = q} h d r) = (omega arith, omega (arith, share-start-end q parts b))
       push-value (leave {q = q} h d r) = (omega arith, omega (arith, sum-more h d, share-eq {p = sink} {i = sink} b refl))
 

@@ -103,7 +103,9 @@ module _ (G : Graph) (F : ℕ) (τ : Times) (φ : Flow) where
         d : More parts (r .flow .part) (bump (r .flow .part) p) p 1
         d = bump-more parts (r .flow .part) p
 
-    reach-back : (p : ℕ) → p < parts → ends p ≡ true → starts p ≡ false → saving p (used p) < φ .part p → Reached labels (end-of p) → Reached (mark-start labels p) (start-of p)
+    reach-back :
+        (p : ℕ) → p < parts → ends p ≡ true → starts p ≡ false → saving p (used p) < φ .part p → Reached labels (end-of p) →
+        Reached (mark-start labels p) (start-of p)
     unfolding mark-start
     reach-back p h a b room r = record {
       flow = with-part (r .flow) (dip (r .flow .part) p);

@@ -89,8 +89,8 @@ module _ (G : Graph) (o : Lawful G) (T : ℕ) (τ : Times) (b : ℕ) (φ₀ : Fl
     }
 
     pub trail-against :
-        {y : ℕ → ℕ} {q : ℕ} → Trail φ (end-of (from q)) (end-turn (from q)) → q < links → start-turn (to q) < end-turn (from q) → More links y (φ .link) q b →
-        Trail (with-link φ y) (start-of (to q)) (start-turn (to q))
+        {y : ℕ → ℕ} {q : ℕ} → Trail φ (end-of (from q)) (end-turn (from q)) → q < links → start-turn (to q) < end-turn (from q) →
+        More links y (φ .link) q b → Trail (with-link φ y) (start-of (to q)) (start-turn (to q))
     unfolding value
     trail-against {y} {q} w h less d = record {
       sent = sent-on (w .sent) (against h d) refl;

@@ -31,7 +31,12 @@ module _ (G : Graph) (o : Lawful G) where
     pub balance :
         (π : ℕ → ℕ) →
         sum links (λ l. π (from l) * link l) + sum parts (λ p. π p * exit p) ≡ sum links (λ l. π (to l) * link l) + sum parts (λ p. π p * entry p)
-    balance π = omega (arith, weigh parts links from link exit part π (o .from-in) (c .leaves), weigh parts links to link entry part π (o .to-in) (c .arrives))
+    balance π =
+        omega (
+          arith,
+          weigh parts links from link exit part π (o .from-in) (c .leaves),
+          weigh parts links to link entry part π (o .to-in) (c .arrives),
+        )
 
     -- as much enters as leaves
     pub value-entry : value G φ ≡ sum parts entry
@@ -116,7 +121,11 @@ module _ (G : Graph) (o : Lawful G) where
     crosses p l h =
         elim (decLt (end p) (end (from l))) [
           | yes a ↦
-              rw (after-1 p (from l) a, after-1 p (to l) (omega (arith, later l h)), share-ne {p = from l} {i = p} (link l) (λ q. omega (arith, ap end q)))
+              rw (
+                after-1 p (from l) a,
+                after-1 p (to l) (omega (arith, later l h)),
+                share-ne {p = from l} {i = p} (link l) (λ q. omega (arith, ap end q)),
+              )
               (omega arith)
           | no a ↦
               rw (after-0 p (from l) (omega arith))
