@@ -29,7 +29,7 @@ look (suc n) {P} d = more (look n d) (d n)
 pub look-for : (n : ℕ) {P : ℕ → Type 0} {A : Type 0} → ((i : ℕ) → Dec (P i)) → ((i : ℕ) → i < n → P i → A) → (((i : ℕ) → i < n → P i → ⊥) → A) → A
 look-for n d f g = elim (look n d) [ found i h a ↦ f i h a | none r ↦ g r ]
 
-pub dec-and : {A G : Type 0} → Dec A → Dec G → Dec (A × G)
+pub dec-and : {A B : Type 0} → Dec A → Dec B → Dec (A × B)
 dec-and (yes a) (yes b) = yes (a, b)
 dec-and (yes a) (no b) = no (λ c. b (c .1))
 dec-and (no a) d = no (λ c. a (c .0))
