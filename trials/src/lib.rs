@@ -1,0 +1,18 @@
+//! A second planner, written from the paper alone and by other means than the
+//! proved one, so that the two can be compared case by case.
+//!
+//! It shares neither code nor method with the proved planner: links are held
+//! in an ordered set, files are read by a cursor, and the cheapest budget is
+//! found by a minimum-cost flow along longest paths (see `solve`).
+
+#![forbid(unsafe_code)]
+
+pub mod board;
+pub mod bundle;
+pub mod desk;
+pub mod file;
+pub mod make;
+pub mod refusal;
+pub mod report;
+pub mod rng;
+pub mod solve;
