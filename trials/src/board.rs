@@ -43,10 +43,7 @@ impl Curve {
             return None;
         }
         let ticks = (delay - self.fastest) as usize;
-        let savings = self
-            .runs
-            .iter()
-            .flat_map(|run| (0..run.length).map(|_| run.saving));
+        let savings = self.runs.iter().flat_map(|run| (0..run.length).map(|_| run.saving));
         Some(self.power - savings.take(ticks).sum::<u32>())
     }
 
@@ -89,10 +86,7 @@ impl Board {
             && (1..=MOST_PARTS).contains(&self.parts())
             && self.links.len() <= MOST_LINKS
             && self.curves.iter().all(Curve::is_well_formed)
-            && self
-                .links
-                .iter()
-                .all(|&(from, to)| from != to && from < self.parts() && to < self.parts())
+            && self.links.iter().all(|&(from, to)| from != to && from < self.parts() && to < self.parts())
     }
 
     pub fn fastest(&self) -> Vec<u32> {
@@ -123,11 +117,7 @@ impl Board {
 
     /// The sum of the powers, or `None` where a delay is outside its curve.
     pub fn total(&self, delays: &[u32]) -> Option<u32> {
-        self.curves
-            .iter()
-            .zip(delays)
-            .map(|(curve, &delay)| curve.power_at(delay))
-            .sum()
+        self.curves.iter().zip(delays).map(|(curve, &delay)| curve.power_at(delay)).sum()
     }
 
     /// All parts that links lead to from `part`, `part` included only where a
@@ -153,9 +143,7 @@ impl Board {
 
     /// Said through `downstream`, so that the two cannot disagree unseen.
     pub fn upstream(&self, part: usize) -> BTreeSet<usize> {
-        (0..self.parts())
-            .filter(|&other| self.downstream(other).contains(&part))
-            .collect()
+        (0..self.parts()).filter(|&other| self.downstream(other).contains(&part)).collect()
     }
 
     pub fn lowest_part_on_a_loop(&self) -> Option<usize> {

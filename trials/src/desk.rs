@@ -36,11 +36,7 @@ impl Held {
     }
 
     fn critical_links(&self) -> impl Iterator<Item = (usize, usize)> + '_ {
-        self.board
-            .links
-            .iter()
-            .copied()
-            .filter(|&link| self.is_critical(link))
+        self.board.links.iter().copied().filter(|&link| self.is_critical(link))
     }
 
     /// Parents and children by turns until neither grows.
@@ -78,10 +74,7 @@ pub struct Marks {
 
 impl Marks {
     fn of(set: u64) -> Marks {
-        Marks {
-            set,
-            count: set.count_ones(),
-        }
+        Marks { set, count: set.count_ones() }
     }
 
     fn of_parts(parts: impl IntoIterator<Item = usize>) -> Marks {
@@ -119,13 +112,7 @@ impl Desk {
     pub fn order(&mut self, bytes: &[u8], tally: &mut Tally) -> Answer {
         let (order, took) = match read_order(bytes) {
             Ok(read) => read,
-            Err(refusal) => {
-                return Answer {
-                    kind: 0,
-                    took: 0,
-                    verdict: Err(refusal),
-                }
-            }
+            Err(refusal) => return Answer { kind: 0, took: 0, verdict: Err(refusal) },
         };
         let verdict = match self.tried(&order, tally) {
             Ok(held) => {
@@ -140,11 +127,7 @@ impl Desk {
                 Err(refusal)
             }
         };
-        Answer {
-            kind: order.kind(),
-            took,
-            verdict,
-        }
+        Answer { kind: order.kind(), took, verdict }
     }
 
     /// The desk as it would be: 11, 18, 17, the order's own refusals, 9, 10.

@@ -50,11 +50,7 @@ impl Cursor<'_> {
             value += u32::from(byte % 128) << (7 * group);
             if byte < 128 {
                 let needless = group > 0 && byte == 0;
-                return if needless {
-                    Err(Refusal::at(2, place))
-                } else {
-                    Ok(Number { value, place })
-                };
+                return if needless { Err(Refusal::at(2, place)) } else { Ok(Number { value, place }) };
             }
         }
         Err(Refusal::at(2, place))
@@ -75,10 +71,7 @@ impl Cursor<'_> {
         if before.is_some_and(|run| saving.value >= run.saving) {
             return Err(Refusal::at(5, saving.place));
         }
-        Ok(Run {
-            length,
-            saving: saving.value,
-        })
+        Ok(Run { length, saving: saving.value })
     }
 
     fn curve(&mut self) -> Result<Curve, Refusal> {
@@ -90,11 +83,7 @@ impl Cursor<'_> {
             let run = self.run(runs.last().copied())?;
             runs.push(run);
         }
-        let curve = Curve {
-            fastest,
-            power: power.value,
-            runs,
-        };
+        let curve = Curve { fastest, power: power.value, runs };
         if curve.power < curve.savings() {
             return Err(Refusal::at(6, power.place));
         }
@@ -137,18 +126,12 @@ pub fn read_design(bytes: &[u8]) -> Result<Board, Refusal> {
     }
     let deadline = cursor.within(1, MOST_DEADLINE)?.value;
     let parts = cursor.within(1, MOST_PARTS as u32)?.value as usize;
-    let curves = (0..parts)
-        .map(|_| cursor.curve())
-        .collect::<Result<Vec<_>, _>>()?;
+    let curves = (0..parts).map(|_| cursor.curve()).collect::<Result<Vec<_>, _>>()?;
     let links = cursor.links(parts)?;
     if cursor.at < bytes.len() {
         return Err(Refusal::at(8, cursor.at));
     }
-    Ok(Board {
-        deadline,
-        curves,
-        links,
-    })
+    Ok(Board { deadline, curves, links })
 }
 
 /// Reads the first order of `bytes` alone (refusals 1, 2, 12, 4, 5, 6) and

@@ -65,8 +65,7 @@ fn run(words: &[&str]) -> Result<ExitCode, String> {
         _ => return Err("inspect, show, read, orders, solve, sessions, make, unpack or compare".to_string()),
     };
     let mut out = std::io::stdout().lock();
-    out.write_all(text.as_bytes())
-        .map_err(|fault| fault.to_string())?;
+    out.write_all(text.as_bytes()).map_err(|fault| fault.to_string())?;
     Ok(ExitCode::SUCCESS)
 }
 

@@ -31,18 +31,14 @@ pub fn files(count: usize, rng: &mut Rng) -> Vec<Vec<u8>> {
     cut(records, LONGEST_FILE)
 }
 
-/// Single orders, three of four as they should be, some with bytes behind.
+/// Single orders, half of them damaged, some with bytes behind.
 pub fn orders(count: usize, rng: &mut Rng) -> Vec<Vec<u8>> {
     let mut records = Vec::new();
     while records.len() < count {
         let board = boards::board_in_time(rng);
         for _ in 0..16 {
             let order = orders::order(&board, rng);
-            let mut bytes = if rng.once_in(2) {
-                damage::order(&order, rng)
-            } else {
-                write_order(&order)
-            };
+            let mut bytes = if rng.once_in(2) { damage::order(&order, rng) } else { write_order(&order) };
             if rng.once_in(4) {
                 bytes.extend(write_order(&orders::order(&board, rng)));
             }
@@ -64,11 +60,7 @@ pub fn sessions(count: usize, rng: &mut Rng) -> Vec<Vec<u8>> {
     for _ in 0..count {
         let board = boards::board(rng);
         let damaged = rng.once_in(16);
-        records.push(if damaged {
-            damage::design(&board, rng)
-        } else {
-            write_design(&board)
-        });
+        records.push(if damaged { damage::design(&board, rng) } else { write_design(&board) });
         let file = records.last().expect("a file was just made");
         let stream = stream(file, rng);
         records.push(stream);
@@ -84,9 +76,7 @@ fn stream(file: &[u8], rng: &mut Rng) -> Vec<u8> {
     let most = if rng.once_in(10) { 100 } else { 24 };
     let mut stream = Vec::new();
     for _ in 0..rng.below(most) {
-        let board = desk
-            .held()
-            .map_or_else(|_| boards::board_in_time(rng), |held| held.board.clone());
+        let board = desk.held().map_or_else(|_| boards::board_in_time(rng), |held| held.board.clone());
         let bytes = write_order(&orders::order(&board, rng));
         desk.order(&bytes, &mut tally);
         stream.extend(bytes);

@@ -10,10 +10,6 @@ pub struct Refusal {
 
 impl Refusal {
     pub fn at(number: u32, place: usize) -> Refusal {
-        Refusal {
-            number,
-            place: u32::try_from(place).expect("a place has 32 bits"),
-            path: Vec::new(),
-        }
+        Refusal { number, place: u32::try_from(place).expect("a place has 32 bits"), path: Vec::new() }
     }
 }

@@ -11,10 +11,7 @@ fn line(text: &mut String, words: std::fmt::Arguments) {
 }
 
 fn spaced<T: ToString>(items: &[T]) -> String {
-    items
-        .iter()
-        .map(|item| format!(" {}", item.to_string()))
-        .collect()
+    items.iter().map(|item| format!(" {}", item.to_string())).collect()
 }
 
 fn hex(bytes: &[u8]) -> String {
@@ -58,14 +55,7 @@ pub fn inspect(file: &[u8], orders: &[u8]) -> String {
     let (mut desk, mut tally) = (Desk::default(), Tally::default());
     let load = desk.load(file, &mut tally);
     let (number, place, path) = facts(&load);
-    line(
-        &mut text,
-        format_args!(
-            "load no {number} place {place} path {}{}",
-            path.len(),
-            spaced(path)
-        ),
-    );
+    line(&mut text, format_args!("load no {number} place {place} path {}{}", path.len(), spaced(path)));
     for (index, step) in follow(&mut desk, &mut tally, orders).iter().enumerate() {
         inspect_step(&mut text, index + 1, step);
     }
@@ -98,10 +88,7 @@ fn inspect_held(text: &mut String, desk: &Desk, held: &Held) {
     for part in 0..held.board.parts() {
         let (start, delay, end) = timed(held, part);
         let power = desk.power(part as u32, delay).expect("a budget is on the curves");
-        line(
-            text,
-            format_args!("part {part} start {start} delay {delay} end {end} power {power}"),
-        );
+        line(text, format_args!("part {part} start {start} delay {delay} end {end} power {power}"));
     }
     line(text, format_args!("total {}", held.budget.total));
     for &(from, to) in &held.board.links {
@@ -118,10 +105,7 @@ fn inspect_sets(text: &mut String, desk: &Desk, part: u32) -> Result<(), Refusal
     let (up, down) = (show(desk.upstream(part)?), show(desk.downstream(part)?));
     let (parents, children) = desk.parents_and_children(part)?;
     let (parents, children) = (show(parents), show(children));
-    line(
-        text,
-        format_args!("sets {part} up {up} down {down} parents {parents} children {children}"),
-    );
+    line(text, format_args!("sets {part} up {up} down {down} parents {parents} children {children}"));
     Ok(())
 }
 
@@ -135,10 +119,7 @@ pub fn show(file: &[u8], orders: &[u8], names: &[u8]) -> String {
     let mut text = String::new();
     let (mut desk, mut tally) = (Desk::default(), Tally::default());
     if let Err(refusal) = desk.load(file, &mut tally) {
-        line(
-            &mut text,
-            format_args!("refused {} {}", refusal.number, refusal.place),
-        );
+        line(&mut text, format_args!("refused {} {}", refusal.number, refusal.place));
         return text;
     }
     for (index, step) in follow(&mut desk, &mut tally, orders).iter().enumerate() {
@@ -151,16 +132,10 @@ pub fn show(file: &[u8], orders: &[u8], names: &[u8]) -> String {
         let power = desk.power(part as u32, delay).expect("a budget is on the curves");
         let name = label(names, part as u32).unwrap_or(b"-");
         let name: String = name.iter().map(|&byte| char::from(byte)).collect();
-        line(
-            &mut text,
-            format_args!("{part} {name} {start} {delay} {end} {power}"),
-        );
+        line(&mut text, format_args!("{part} {name} {start} {delay} {end} {power}"));
     }
     line(&mut text, format_args!("total {}", held.budget.total));
-    line(
-        &mut text,
-        format_args!("orders {} taken {} refused", tally.taken, tally.refused),
-    );
+    line(&mut text, format_args!("orders {} taken {} refused", tally.taken, tally.refused));
     text
 }
 
@@ -202,14 +177,9 @@ pub fn orders(records: &[&[u8]]) -> String {
     for (index, record) in records.iter().enumerate() {
         let answer = read_order(record);
         let (number, place, _) = facts(&answer);
-        let (kind, took) = answer
-            .as_ref()
-            .map_or((0, 0), |(order, took)| (order.kind(), *took));
+        let (kind, took) = answer.as_ref().map_or((0, 0), |(order, took)| (order.kind(), *took));
         let count = index + 1;
-        line(
-            &mut text,
-            format_args!("{count} no {number} place {place} took {took} kind {kind}"),
-        );
+        line(&mut text, format_args!("{count} no {number} place {place} took {took} kind {kind}"));
     }
     text
 }
@@ -224,17 +194,11 @@ pub fn solve(records: &[&[u8]]) -> String {
             Ok(board) => {
                 let budget = cheapest(&board);
                 let (ends, delays) = (spaced(&budget.ends), spaced(&budget.delays));
-                line(
-                    &mut text,
-                    format_args!("{count} total {} ends{ends} delays{delays}", budget.total),
-                );
+                line(&mut text, format_args!("{count} total {} ends{ends} delays{delays}", budget.total));
             }
             Err(Refusal { number, place, path }) => {
                 let (length, parts) = (path.len(), spaced(&path));
-                line(
-                    &mut text,
-                    format_args!("{count} no {number} place {place} path {length}{parts}"),
-                );
+                line(&mut text, format_args!("{count} no {number} place {place} path {length}{parts}"));
             }
         }
     }
@@ -262,10 +226,7 @@ pub fn differences(left: &[u8], right: &[u8]) -> Option<String> {
         return None;
     }
     let mut text = String::new();
-    line(
-        &mut text,
-        format_args!("{} of {longest} lines differ", differ.len()),
-    );
+    line(&mut text, format_args!("{} of {longest} lines differ", differ.len()));
     for index in differ.into_iter().take(10) {
         line(&mut text, format_args!("line {}", index + 1));
         line(&mut text, format_args!("< {}", shown(left.get(index))));
@@ -279,7 +240,5 @@ fn lines_of(bytes: &[u8]) -> Vec<&[u8]> {
 }
 
 fn shown(line: Option<&&[u8]>) -> String {
-    line.map_or("(no line)".to_string(), |line| {
-        String::from_utf8_lossy(line).into_owned()
-    })
+    line.map_or("(no line)".to_string(), |line| String::from_utf8_lossy(line).into_owned())
 }

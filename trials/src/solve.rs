@@ -85,11 +85,7 @@ impl Network {
         self.leaving[from].push(self.arcs.len());
         self.arcs.push(Arc { to, ticks, room });
         self.leaving[to].push(self.arcs.len());
-        self.arcs.push(Arc {
-            to: from,
-            ticks: -ticks,
-            room: 0,
-        });
+        self.arcs.push(Arc { to: from, ticks: -ticks, room: 0 });
     }
 
     fn add_part(&mut self, board: &Board, part: usize) {
@@ -178,10 +174,7 @@ impl Network {
             self.add(self.start(), self.end(), self.deadline, ANY);
         }
         let (ticks, _) = self.longest();
-        ticks
-            .into_iter()
-            .map(|t| t.expect("all parts are reached from the start"))
-            .collect()
+        ticks.into_iter().map(|t| t.expect("all parts are reached from the start")).collect()
     }
 }
 
@@ -190,39 +183,25 @@ pub fn cheapest(board: &Board) -> Budget {
     let mut network = Network::of(board);
     let (units, beyond) = network.fill();
     let times = network.least_times(units);
-    let delays: Vec<u32> = (0..board.parts())
-        .map(|part| (times[2 * part + 1] - times[2 * part]) as u32)
-        .collect();
+    let delays: Vec<u32> =
+        (0..board.parts()).map(|part| (times[2 * part + 1] - times[2 * part]) as u32).collect();
     let budget = budget_of(board, delays).expect("the times give delays on the curves");
     for part in 0..board.parts() {
         assert_eq!(i64::from(budget.starts[part]), times[2 * part], "a start waits");
     }
-    assert_eq!(
-        i64::from(budget.total),
-        least_possible(board) + beyond,
-        "the flow proves another total"
-    );
+    assert_eq!(i64::from(budget.total), least_possible(board) + beyond, "the flow proves another total");
     budget
 }
 
 /// The total with all parts at their slowest, deadline or not.
 fn least_possible(board: &Board) -> i64 {
-    board
-        .curves
-        .iter()
-        .map(|curve| i64::from(curve.power - curve.savings()))
-        .sum()
+    board.curves.iter().map(|curve| i64::from(curve.power - curve.savings())).sum()
 }
 
 fn budget_of(board: &Board, delays: Vec<u32>) -> Option<Budget> {
     let total = board.total(&delays)?;
     let times = board.times(&delays);
-    Some(Budget {
-        delays,
-        starts: times.starts,
-        ends: times.ends,
-        total,
-    })
+    Some(Budget { delays, starts: times.starts, ends: times.ends, total })
 }
 
 /// How many budgets a board has, allowed or not, if no more than `most`.

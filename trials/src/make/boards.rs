@@ -40,13 +40,7 @@ pub enum Curves {
     Greatest,
 }
 
-pub const CURVES: [Curves; 5] = [
-    Curves::Mixed,
-    Curves::Flat,
-    Curves::Ties,
-    Curves::Small,
-    Curves::Greatest,
-];
+pub const CURVES: [Curves; 5] = [Curves::Mixed, Curves::Flat, Curves::Ties, Curves::Small, Curves::Greatest];
 
 #[derive(Clone, Copy, Debug, PartialEq, Eq)]
 pub enum Haste {
@@ -60,13 +54,8 @@ pub enum Haste {
     Unhurried,
 }
 
-pub const HASTES: [Haste; 5] = [
-    Haste::TooTight,
-    Haste::Tightest,
-    Haste::Between,
-    Haste::AllSlowest,
-    Haste::Unhurried,
-];
+pub const HASTES: [Haste; 5] =
+    [Haste::TooTight, Haste::Tightest, Haste::Between, Haste::AllSlowest, Haste::Unhurried];
 
 /// A board of any size and family; about one in eight is refused.
 pub fn board(rng: &mut Rng) -> Board {
@@ -74,12 +63,7 @@ pub fn board(rng: &mut Rng) -> Board {
         return board_of(Shape::Looped, rng.one_of(&CURVES), Haste::Between, rng);
     }
     if rng.once_in(20) {
-        return board_of(
-            rng.one_of(&SHAPES[..8]),
-            rng.one_of(&CURVES),
-            Haste::TooTight,
-            rng,
-        );
+        return board_of(rng.one_of(&SHAPES[..8]), rng.one_of(&CURVES), Haste::TooTight, rng);
     }
     board_in_time(rng)
 }
@@ -87,69 +71,40 @@ pub fn board(rng: &mut Rng) -> Board {
 /// A board without loops, nearly always in time (a long path of the greatest
 /// curves is not). Deadlines between the ends try the solver most.
 pub fn board_in_time(rng: &mut Rng) -> Board {
-    let haste = if rng.once_in(2) {
-        Haste::Between
-    } else {
-        rng.one_of(&HASTES[1..])
-    };
-    let curves = if rng.once_in(2) {
-        Curves::Mixed
-    } else {
-        rng.one_of(&CURVES)
-    };
+    let haste = if rng.once_in(2) { Haste::Between } else { rng.one_of(&HASTES[1..]) };
+    let curves = if rng.once_in(2) { Curves::Mixed } else { rng.one_of(&CURVES) };
     board_of(rng.one_of(&SHAPES[..8]), curves, haste, rng)
 }
 
 pub fn board_of(shape: Shape, curves: Curves, haste: Haste, rng: &mut Rng) -> Board {
-    let parts = if shape == Shape::OnePart {
-        1
-    } else {
-        rng.between(1, MOST_PARTS as u32) as usize
-    };
+    let parts = if shape == Shape::OnePart { 1 } else { rng.between(1, MOST_PARTS as u32) as usize };
     sized_board(parts, shape, curves, haste, rng)
 }
 
-/// A board with few enough budgets to try them all.
+/// A board with so few budgets that most often all can be tried.
 pub fn tiny_board(rng: &mut Rng) -> Board {
     let parts = rng.between(1, 7) as usize;
-    let curves = rng.one_of(&[Curves::Small, Curves::Small, Curves::Ties]);
-    sized_board(
-        parts,
-        rng.one_of(&SHAPES[1..8]),
-        curves,
-        rng.one_of(&HASTES[1..]),
-        rng,
-    )
+    let curves = rng.one_of(&[Curves::Small, Curves::Ties]);
+    let haste = if rng.once_in(4) { rng.one_of(&HASTES[1..]) } else { Haste::Between };
+    sized_board(parts, rng.one_of(&SHAPES[1..8]), curves, haste, rng)
 }
 
 pub fn sized_board(parts: usize, shape: Shape, curves: Curves, haste: Haste, rng: &mut Rng) -> Board {
     let links = links(parts, shape, rng);
-    let mut board = Board {
-        deadline: rng.between(1, MOST_DEADLINE),
-        curves: vec![flat(1); parts],
-        links,
-    };
+    let mut board = Board { deadline: rng.between(1, MOST_DEADLINE), curves: vec![flat(1); parts], links };
     if board.lowest_part_on_a_loop().is_some() {
         board.curves = some_curves(parts, curves, MOST_FASTEST, rng);
         return board;
     }
     let depth = board.fastest_path_ticks();
-    let most_fastest = if rng.once_in(8) {
-        MOST_FASTEST
-    } else {
-        MOST_FASTEST.min(MOST_DEADLINE / depth)
-    };
+    let most_fastest = if rng.once_in(8) { MOST_FASTEST } else { MOST_FASTEST.min(MOST_DEADLINE / depth) };
     board.curves = some_curves(parts, curves, most_fastest, rng);
     board.deadline = deadline(&board, haste, rng);
     board
 }
 
 fn flat(fastest: u32) -> Curve {
-    Curve {
-        fastest,
-        power: 0,
-        runs: Vec::new(),
-    }
+    Curve { fastest, power: 0, runs: Vec::new() }
 }
 
 /// Links from earlier to later in some order of the parts, so that a link may
@@ -165,20 +120,11 @@ fn links(parts: usize, shape: Shape, rng: &mut Rng) -> BTreeSet<(usize, usize)> 
         Shape::Loose | Shape::Looped => forward(parts, rng.between(1, 2 * parts as u32) as usize, rng),
     };
     if shape == Shape::Looped {
-        pairs.extend((0..rng.between(1, 3)).map(|_| (rng.below(parts), rng.below(parts))));
+        pairs.extend(ring(parts, rng));
     }
-    let names = if rng.once_in(3) {
-        (0..parts).collect()
-    } else {
-        rng.shuffled(parts)
-    };
+    let names = if rng.once_in(3) { (0..parts).collect() } else { rng.shuffled(parts) };
     let named = pairs.into_iter().map(|(from, to)| (names[from], names[to]));
-    named
-        .filter(|(from, to)| from != to)
-        .collect::<BTreeSet<_>>()
-        .into_iter()
-        .take(MOST_LINKS)
-        .collect()
+    named.filter(|(from, to)| from != to).collect::<BTreeSet<_>>().into_iter().take(MOST_LINKS).collect()
 }
 
 /// One part leads to all others, or all lead to one.
@@ -223,17 +169,21 @@ fn wide(parts: usize, rng: &mut Rng) -> Vec<(usize, usize)> {
 
 /// `count` links from earlier to later, or all that there are if fewer.
 fn forward(parts: usize, count: usize, rng: &mut Rng) -> Vec<(usize, usize)> {
-    let all: Vec<_> = (0..parts)
-        .flat_map(|to| (0..to).map(move |from| (from, to)))
-        .collect();
+    let all: Vec<_> = (0..parts).flat_map(|to| (0..to).map(move |from| (from, to))).collect();
     let chosen = rng.shuffled(all.len());
     chosen.into_iter().take(count).map(|index| all[index]).collect()
 }
 
+/// A loop through two to six parts.
+fn ring(parts: usize, rng: &mut Rng) -> Vec<(usize, usize)> {
+    let around = rng.shuffled(parts);
+    let length = parts.min(rng.between(2, 6) as usize);
+    (0..length).map(|step| (around[step], around[(step + 1) % length])).collect()
+}
+
 fn some_curves(parts: usize, style: Curves, most_fastest: u32, rng: &mut Rng) -> Vec<Curve> {
     if style == Curves::Ties {
-        let one = curve(Curves::Small, most_fastest, rng);
-        return vec![one; parts];
+        return vec![curve(style, most_fastest, rng); parts];
     }
     (0..parts).map(|_| curve(style, most_fastest, rng)).collect()
 }
@@ -241,13 +191,10 @@ fn some_curves(parts: usize, style: Curves, most_fastest: u32, rng: &mut Rng) ->
 pub fn curve(style: Curves, most_fastest: u32, rng: &mut Rng) -> Curve {
     let fastest = rng.between(1, most_fastest);
     match style {
-        Curves::Flat => Curve {
-            fastest,
-            power: rng.between(0, MOST_POWER),
-            runs: Vec::new(),
-        },
+        Curves::Flat => Curve { fastest, power: rng.between(0, MOST_POWER), runs: Vec::new() },
         Curves::Small | Curves::Ties => {
-            let runs = runs(rng.below(3), 3, 6, rng);
+            let least_runs = usize::from(style == Curves::Ties);
+            let runs = runs(least_runs + rng.below(3 - least_runs), 3, 6, rng);
             powered(rng.between(1, 3.min(most_fastest)), runs, 10, rng)
         }
         Curves::Mixed => {
@@ -256,10 +203,7 @@ pub fn curve(style: Curves, most_fastest: u32, rng: &mut Rng) -> Curve {
             powered(fastest, runs, 1_000, rng)
         }
         Curves::Greatest => {
-            let runs = (0..4).map(|run| Run {
-                length: MOST_LENGTH,
-                saving: MOST_SAVING - run,
-            });
+            let runs = (0..4).map(|run| Run { length: MOST_LENGTH, saving: MOST_SAVING - run });
             powered(most_fastest, runs.collect(), 0, rng)
         }
     }
@@ -271,20 +215,13 @@ fn runs(count: usize, longest: u32, most_saving: u32, rng: &mut Rng) -> Vec<Run>
     while savings.len() < count {
         savings.insert(rng.between(1, most_saving));
     }
-    let run = |saving| Run {
-        length: rng.between(1, longest),
-        saving,
-    };
+    let run = |saving| Run { length: rng.between(1, longest), saving };
     savings.into_iter().rev().map(run).collect()
 }
 
 /// Now and then with exactly as much power as savings, or the most there is.
 fn powered(fastest: u32, runs: Vec<Run>, spare: u32, rng: &mut Rng) -> Curve {
-    let mut curve = Curve {
-        fastest,
-        power: 0,
-        runs,
-    };
+    let mut curve = Curve { fastest, power: 0, runs };
     curve.power = match rng.below(8) {
         0 => curve.savings(),
         1 => MOST_POWER,

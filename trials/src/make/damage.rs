@@ -15,15 +15,7 @@ const EDGES: [u32; 27] = [
 pub fn sweep(file: &[u8]) -> Vec<Vec<u8>> {
     let mut damaged = Vec::new();
     for (place, &byte) in file.iter().enumerate() {
-        for other in [
-            byte ^ 0x80,
-            byte.wrapping_add(1),
-            byte.wrapping_sub(1),
-            0,
-            0x7f,
-            0x80,
-            0xff,
-        ] {
+        for other in [byte ^ 0x80, byte.wrapping_add(1), byte.wrapping_sub(1), 0, 0x7f, 0x80, 0xff] {
             damaged.push(changed(file, place, other));
         }
         damaged.push(file[..place].to_vec());
@@ -97,12 +89,7 @@ fn numbers(numbers: &[u32], rng: &mut Rng) -> Vec<u8> {
         8 => number_bytes(1 << 21),
         _ => number_bytes(numbers[rng.below(numbers.len())]),
     };
-    [
-        bytes_of(&numbers[..place]),
-        instead,
-        bytes_of(&numbers[place + 1..]),
-    ]
-    .concat()
+    [bytes_of(&numbers[..place]), instead, bytes_of(&numbers[place + 1..])].concat()
 }
 
 /// The same number with a last group of zero.

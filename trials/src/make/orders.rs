@@ -65,10 +65,6 @@ fn remove(board: &Board, rng: &mut Rng) -> Order {
 fn replace(board: &Board, rng: &mut Rng) -> Order {
     let part = part(board, rng);
     let present = board.curves.get(part).map_or(MOST_FASTEST, |curve| curve.fastest);
-    let most = if rng.once_in(4) {
-        MOST_FASTEST
-    } else {
-        (present + 5).min(MOST_FASTEST)
-    };
+    let most = if rng.once_in(4) { MOST_FASTEST } else { (present + 5).min(MOST_FASTEST) };
     Order::Replace(part, curve(rng.one_of(&CURVES), most, rng))
 }
