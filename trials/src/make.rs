@@ -28,7 +28,8 @@ pub fn files(count: usize, rng: &mut Rng) -> Vec<Vec<u8>> {
         records.push(file);
     }
     records.truncate(count);
-    cut(records, LONGEST_FILE)
+    records.iter_mut().for_each(|record| record.truncate(LONGEST_FILE));
+    records
 }
 
 /// Single orders, half of them damaged, some with bytes behind.
@@ -59,13 +60,13 @@ pub fn sessions(count: usize, rng: &mut Rng) -> Vec<Vec<u8>> {
     let mut records = Vec::new();
     for _ in 0..count {
         let board = boards::board(rng);
-        let damaged = rng.once_in(16);
-        records.push(if damaged { damage::design(&board, rng) } else { write_design(&board) });
-        let file = records.last().expect("a file was just made");
-        let stream = stream(file, rng);
-        records.push(stream);
+        let mut file = if rng.once_in(16) { damage::design(&board, rng) } else { write_design(&board) };
+        file.truncate(LONGEST_FILE);
+        let mut stream = stream(&file, rng);
+        stream.truncate(LONGEST_STREAM);
+        records.extend([file, stream]);
     }
-    cut(records, LONGEST_STREAM)
+    records
 }
 
 /// Orders that suit the board as it stands after those before them; the last
@@ -86,11 +87,4 @@ fn stream(file: &[u8], rng: &mut Rng) -> Vec<u8> {
         stream.extend(damage::order(&orders::order(&board, rng), rng));
     }
     stream
-}
-
-fn cut(mut records: Vec<Vec<u8>>, most: usize) -> Vec<Vec<u8>> {
-    for record in &mut records {
-        record.truncate(most);
-    }
-    records
 }
