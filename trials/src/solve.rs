@@ -25,6 +25,15 @@ pub struct Budget {
     pub total: u32,
 }
 
+impl Budget {
+    /// `None` where a delay is outside its curve; the deadline is not asked.
+    pub fn of(board: &Board, delays: Vec<u32>) -> Option<Budget> {
+        let total = board.total(&delays)?;
+        let times = board.times(&delays);
+        Some(Budget { delays, starts: times.starts, ends: times.ends, total })
+    }
+}
+
 /// More units than any flow can need: the savings at the fastest of 64 parts
 /// add up to 64,000 at most.
 const ANY: i64 = 1_000_000;
@@ -185,7 +194,7 @@ pub fn cheapest(board: &Board) -> Budget {
     let times = network.least_times(units);
     let delays: Vec<u32> =
         (0..board.parts()).map(|part| (times[2 * part + 1] - times[2 * part]) as u32).collect();
-    let budget = budget_of(board, delays).expect("the times give delays on the curves");
+    let budget = Budget::of(board, delays).expect("the times give delays on the curves");
     for part in 0..board.parts() {
         assert_eq!(i64::from(budget.starts[part]), times[2 * part], "a start waits");
     }
@@ -196,12 +205,6 @@ pub fn cheapest(board: &Board) -> Budget {
 /// The total with all parts at their slowest, deadline or not.
 fn least_possible(board: &Board) -> i64 {
     board.curves.iter().map(|curve| i64::from(curve.power - curve.savings())).sum()
-}
-
-fn budget_of(board: &Board, delays: Vec<u32>) -> Option<Budget> {
-    let total = board.total(&delays)?;
-    let times = board.times(&delays);
-    Some(Budget { delays, starts: times.starts, ends: times.ends, total })
 }
 
 /// How many budgets a board has, allowed or not, if no more than `most`.
@@ -218,7 +221,7 @@ pub fn every_cheapest(board: &Board) -> Vec<Budget> {
     let mut next = Some(board.fastest());
     while let Some(delays) = next {
         next = following(board, &delays);
-        let budget = budget_of(board, delays).expect("delays are counted within the curves");
+        let budget = Budget::of(board, delays).expect("delays are counted within the curves");
         if budget.ends.iter().any(|&end| end > board.deadline) {
             continue;
         }

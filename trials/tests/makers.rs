@@ -96,7 +96,7 @@ fn orders_meet_every_refusal_of_reading() {
 /// Read from the printed lines, as a comparison would see them.
 #[test]
 fn sessions_meet_every_refusal_of_orders() {
-    let records = make::sessions(500, &mut Rng::new(15));
+    let records = make::sessions(300, &mut Rng::new(15));
     let records: Vec<&[u8]> = records.iter().map(Vec::as_slice).collect();
     let mut counts = Counts::new();
     for line in report::sessions(&records).lines().filter(|line| line.starts_with("order ")) {

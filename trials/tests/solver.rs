@@ -4,6 +4,7 @@
 mod common;
 use common::*;
 use trials::board::Board;
+use trials::climb::climb;
 use trials::make::boards::{self, board_in_time, tiny_board};
 use trials::rng::Rng;
 use trials::solve::{cheapest, choices, earliest, every_cheapest};
@@ -23,6 +24,7 @@ fn check_against_all(board: &Board) -> usize {
     let held = earliest(&all);
     assert_eq!(held.len(), 1, "one earliest: {board:?}");
     assert_eq!(*held[0], cheapest(board), "{board:?}");
+    assert_eq!(*held[0], climb(board), "{board:?}");
     all.len()
 }
 
@@ -67,6 +69,23 @@ fn boards_of_all_families_against_all_budgets() {
             tried += 1;
         }
     }
+}
+
+/// Boards of up to 64 parts, those left out where the climb would be long.
+#[test]
+fn large_boards_against_the_climb() {
+    let rng = &mut Rng::new(16);
+    let (mut tried, mut between) = (0, 0);
+    while tried < 300 {
+        let board = acceptable(board_in_time, rng);
+        if board.deadline - board.fastest_path_ticks() <= 100 {
+            let budget = cheapest(&board);
+            assert_eq!(climb(&board), budget, "{board:?}");
+            tried += 1;
+            between += usize::from(budget.delays != board.fastest() && budget.delays != board.slowest());
+        }
+    }
+    assert!(between > 100, "{between} boards were neither all fastest nor all slowest");
 }
 
 /// Were a part to end a tick earlier, the rest would cost more or be too slow:
