@@ -1,3 +1,4 @@
+use native.Mathlib.Omega.{arith}
 use mathlib.Core.Path.{_≡_, refl}
 use Prim.Native.Nat.{_<_, _+_}
 use lib.ListN.{length}
@@ -17,7 +18,7 @@ abbrev μ-loop : tie.MeasureT-loop
 
 -- src/lib.rt:81:9
 returns : tie.Need-returns Inv-loop μ-loop
-returns c = search no-form
+returns c = no-form _ (omega arith)
 
 -- src/lib.rt:85:5
 loop-holds : tie.Need-loop-holds Inv-loop μ-loop
