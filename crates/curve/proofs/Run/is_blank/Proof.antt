@@ -1,0 +1,16 @@
+use borrow.Author.Needs.{needs}
+use Rattle.curve.proofs.Run.is_blank.Statement.{statement}
+use Rattle.curve.proofs.Run.is_blank.Tie as tie
+use Rattle.curve.proofs.Run.is_blank.Reads as reads
+use Rattle.curve.proofs.Run.is_blank.Lts as lts
+
+-- src/lib.rt:96:13
+returns : tie.Need-returns
+returns c = search needs
+
+-- src/lib.rt:92:5
+returns-2 : tie.Need-returns-2
+returns-2 c = search needs
+
+pub is-blank-spec : {M : Type 1} → statement M
+is-blank-spec = tie.close (tie.spec returns returns-2)
