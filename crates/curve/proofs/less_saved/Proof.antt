@@ -1,3 +1,4 @@
+use Rattle.curve.proofs.Ways.{product-fits}
 use borrow.Author.Needs.{needs}
 use Rattle.curve.proofs.less_saved.Statement.{statement}
 use Rattle.curve.proofs.less_saved.Tie as tie
@@ -18,7 +19,7 @@ cast-saved-2 c = search needs
 
 -- src/lib.rt:69:17
 mul-saved : tie.Need-mul-saved
-mul-saved c = search needs
+mul-saved c = search (product-fits)
 
 -- src/lib.rt:71:9
 returns : tie.Need-returns

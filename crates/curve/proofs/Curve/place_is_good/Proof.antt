@@ -1,3 +1,4 @@
+use Rattle.curve.proofs.Ways.{place-blank-way, place-unranged, place-first, place-later}
 use borrow.Author.Needs.{needs}
 use Rattle.curve.proofs.Curve.place_is_good.Statement.{statement}
 use Rattle.curve.proofs.Curve.place_is_good.Tie as tie
@@ -20,7 +21,7 @@ is-blank-requires c κs = search needs
 
 -- src/lib.rt:250:13
 returns : tie.Need-returns
-returns c = search needs
+returns c = search (place-blank-way, place-unranged, place-first, place-later)
 
 -- src/lib.rt:252:13
 is-ranged-requires : tie.Need-is-ranged-requires
@@ -28,11 +29,11 @@ is-ranged-requires c κs = search needs
 
 -- src/lib.rt:253:13
 returns-2 : tie.Need-returns-2
-returns-2 c = search needs
+returns-2 c = search (place-blank-way, place-unranged, place-first, place-later)
 
 -- src/lib.rt:256:13
 returns-3 : tie.Need-returns-3
-returns-3 c = search needs
+returns-3 c = search (place-blank-way, place-unranged, place-first, place-later)
 
 -- src/lib.rt:258:32
 sub-before : tie.Need-sub-before
@@ -48,7 +49,7 @@ element-copy-out-before c = search needs
 
 -- src/lib.rt:244:5
 returns-4 : tie.Need-returns-4
-returns-4 c = search needs
+returns-4 c = search (place-blank-way, place-unranged, place-first, place-later)
 
 pub place-is-good-spec : {M : Type 1} → statement M
 place-is-good-spec =

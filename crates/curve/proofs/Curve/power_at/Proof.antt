@@ -1,3 +1,6 @@
+use mathlib.Core.Path.{_≡_}
+use Prim.Native.Nat.{_≤_, _+_, _-_}
+use Rattle.curve.proofs.Ways.{slowedTo, slowed-none, slowed-more, below-fastest, past-slowest, on-curve}
 use borrow.Author.Needs.{needs}
 use Rattle.curve.proofs.Curve.power_at.Statement.{statement}
 use Rattle.curve.proofs.Curve.power_at.Tie as tie
@@ -7,66 +10,66 @@ use Rattle.curve.proofs.Slowing.used.Reads as used-reads
 use Rattle.curve.proofs.lesser.Reads as lesser-reads
 
 abbrev Inv-loop : tie.InvT-loop
-Inv-loop delay self n slowing₀ k₀ slowing k = ?
+Inv-loop delay self n slowing₀ k₀ slowing k = (k ≤ n) × (slowing ≡ slowedTo self (delay .0 - self .fastest .0) k)
 
 abbrev μ-loop : tie.MeasureT-loop
-μ-loop delay self n slowing₀ k₀ slowing k = ?
+μ-loop delay self n slowing₀ k₀ slowing k = n - k
 
 -- src/lib.rt:218:24
 cast-t13 : tie.Need-cast-t13 Inv-loop μ-loop
-cast-t13 c = search needs
+cast-t13 c = (k ≤ n) × (slowing ≡ slowedTo self (delay .0 - self .fastest .0) k)
 
 -- src/lib.rt:216:13
 returns : tie.Need-returns Inv-loop μ-loop
-returns c = search needs
+returns c = search (below-fastest)
 
 -- src/lib.rt:221:13
 lesser-requires : tie.Need-lesser-requires Inv-loop μ-loop
-lesser-requires c κs = search needs
+lesser-requires c κs = (k ≤ n) × (slowing ≡ slowedTo self (delay .0 - self .fastest .0) k)
 
 -- src/lib.rt:224:25
 sub-t15 : tie.Need-sub-t15 Inv-loop μ-loop
-sub-t15 c = search needs
+sub-t15 c = (k ≤ n) × (slowing ≡ slowedTo self (delay .0 - self .fastest .0) k)
 
 -- src/lib.rt:228:9
 loop-holds : tie.Need-loop-holds Inv-loop μ-loop
-loop-holds c = search needs
+loop-holds c = (search needs, slowed-none _ _)
 
 -- src/lib.rt:229:23
 mul-run : tie.Need-mul-run Inv-loop μ-loop
-mul-run c = search needs
+mul-run c = (k ≤ n) × (slowing ≡ slowedTo self (delay .0 - self .fastest .0) k)
 
 -- src/lib.rt:229:23
 element-copy-out-run : tie.Need-element-copy-out-run Inv-loop μ-loop
-element-copy-out-run c = search needs
+element-copy-out-run c = (k ≤ n) × (slowing ≡ slowedTo self (delay .0 - self .fastest .0) k)
 
 -- src/lib.rt:230:13
 used-requires : tie.Need-used-requires Inv-loop μ-loop
-used-requires c κs = search needs
+used-requires c κs = (k ≤ n) × (slowing ≡ slowedTo self (delay .0 - self .fastest .0) k)
 
 -- src/lib.rt:231:17
 add-k : tie.Need-add-k Inv-loop μ-loop
-add-k c = search needs
+add-k c = (k ≤ n) × (slowing ≡ slowedTo self (delay .0 - self .fastest .0) k)
 
 -- src/lib.rt:228:9
 loop-less : tie.Need-loop-less Inv-loop μ-loop
-loop-less c = search needs
+loop-less c = (k ≤ n) × (slowing ≡ slowedTo self (delay .0 - self .fastest .0) k)
 
 -- src/lib.rt:228:9
 loop-again : tie.Need-loop-again Inv-loop μ-loop
-loop-again c = search needs
+loop-again c = (search needs, search (slowed-more))
 
 -- src/lib.rt:236:24
 cast-t23 : tie.Need-cast-t23 Inv-loop μ-loop
-cast-t23 c = search needs
+cast-t23 c = (k ≤ n) × (slowing ≡ slowedTo self (delay .0 - self .fastest .0) k)
 
 -- src/lib.rt:234:13
 returns-2 : tie.Need-returns-2 Inv-loop μ-loop
-returns-2 c = search needs
+returns-2 c = search (past-slowest)
 
 -- src/lib.rt:212:5
 returns-3 : tie.Need-returns-3 Inv-loop μ-loop
-returns-3 c = search needs
+returns-3 c = search (on-curve)
 
 pub power-at-spec : {M : Type 1} → statement M
 power-at-spec =

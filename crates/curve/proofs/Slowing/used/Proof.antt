@@ -1,3 +1,4 @@
+use Rattle.curve.proofs.Ways.{used-way}
 use borrow.Author.Needs.{needs}
 use Rattle.curve.proofs.Slowing.used.Statement.{statement}
 use Rattle.curve.proofs.Slowing.used.Tie as tie
@@ -20,7 +21,7 @@ less-saved-requires c κs = search needs
 
 -- src/lib.rt:78:5
 returns : tie.Need-returns
-returns c = search needs
+returns c = search (used-way)
 
 pub used-spec : {M : Type 1} → statement M
 used-spec = tie.close (tie.spec above-requires sub-t5 less-saved-requires returns)
