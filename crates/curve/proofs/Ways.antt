@@ -9,7 +9,8 @@ use native.Mathlib.Nat.{le-refl, le-of-lt, lt-of-le-of-lt, mul-le-mul, mul-le-mu
 use native.Mathlib.Omega.{arith}
 use native.Mathlib.Numerals.{add-one}
 use lib.Dec.{ltb, leb, eqb}
-use lib.ListN.{length}
+use mathlib.Core.List.{List, map}
+use lib.ListN.{length, length-map}
 use mir.Syntax.{w32, w64}
 use mir.Val.{Fits}
 use borrow.Author.Tests.{not-true, not-false, lt-ltb, le-ltb, le-leb, lt-leb, eq-eqb, ne-eqb}
@@ -39,6 +40,10 @@ product-fits a b p q =
     let a-to : a ≤ 4294967295 = omega arith in
     let b-to : b ≤ 4294967295 = omega arith in
     record { fits = omega (arith, mul-le-mul a-to b-to) }
+
+-- how many elements an array has, from what its type tells of their machine values
+pub room-of : {X Y : Type 0} (f : X → Y) (l : List X) (n : ℕ) → length (map f l) ≡ n → length l ≡ n
+room-of f l n h = sym (length-map l f) ∙ h
 
 module _ (c : Curve) where
   run-length : (k : ℕ) → runAt c k .length .0 ≡ lengthAt c k

@@ -23,7 +23,7 @@ loop-holds c = (search needs, every-none _)
 
 -- src/lib.rt:267:17
 place-is-good-requires : tie.Need-place-is-good-requires Inv-loop μ-loop
-place-is-good-requires c κs = (k ≤ 4) × (every k (placeb self) ≡ true)
+place-is-good-requires c κs = search needs
 
 -- src/lib.rt:268:17
 returns : tie.Need-returns Inv-loop μ-loop
@@ -31,11 +31,11 @@ returns c = search (place-fails)
 
 -- src/lib.rt:270:17
 add-k : tie.Need-add-k Inv-loop μ-loop
-add-k c = (k ≤ 4) × (every k (placeb self) ≡ true)
+add-k c = search needs
 
 -- src/lib.rt:266:9
 loop-less : tie.Need-loop-less Inv-loop μ-loop
-loop-less c = (k ≤ 4) × (every k (placeb self) ≡ true)
+loop-less c = search needs
 
 -- src/lib.rt:266:9
 loop-again : tie.Need-loop-again Inv-loop μ-loop

@@ -19,11 +19,11 @@ loop-holds c = (search needs, saved-none _)
 
 -- src/lib.rt:176:23
 mul-run : tie.Need-mul-run Inv-loop μ-loop
-mul-run c = (k ≤ n) × (saved ≡ savedTo self k)
+mul-run c = search needs
 
 -- src/lib.rt:176:23
 element-copy-out-run : tie.Need-element-copy-out-run Inv-loop μ-loop
-element-copy-out-run c = (k ≤ n) × (saved ≡ savedTo self k)
+element-copy-out-run c = search needs
 
 -- src/lib.rt:177:29
 mul-saved : tie.Need-mul-saved Inv-loop μ-loop
@@ -35,11 +35,11 @@ add-saved c = search (saved-fits)
 
 -- src/lib.rt:178:17
 add-k : tie.Need-add-k Inv-loop μ-loop
-add-k c = (k ≤ n) × (saved ≡ savedTo self k)
+add-k c = search needs
 
 -- src/lib.rt:175:9
 loop-less : tie.Need-loop-less Inv-loop μ-loop
-loop-less c = (k ≤ n) × (saved ≡ savedTo self k)
+loop-less c = search needs
 
 -- src/lib.rt:175:9
 loop-again : tie.Need-loop-again Inv-loop μ-loop

@@ -19,11 +19,11 @@ loop-holds c = (search needs, slow-none _)
 
 -- src/lib.rt:160:23
 mul-run : tie.Need-mul-run Inv-loop μ-loop
-mul-run c = (k ≤ n) × (delay ≡ slowTo self k)
+mul-run c = search needs
 
 -- src/lib.rt:160:23
 element-copy-out-run : tie.Need-element-copy-out-run Inv-loop μ-loop
-element-copy-out-run c = (k ≤ n) × (delay ≡ slowTo self k)
+element-copy-out-run c = search needs
 
 -- src/lib.rt:161:21
 add-delay : tie.Need-add-delay Inv-loop μ-loop
@@ -31,11 +31,11 @@ add-delay c = search (slow-fits)
 
 -- src/lib.rt:162:17
 add-k : tie.Need-add-k Inv-loop μ-loop
-add-k c = (k ≤ n) × (delay ≡ slowTo self k)
+add-k c = search needs
 
 -- src/lib.rt:159:9
 loop-less : tie.Need-loop-less Inv-loop μ-loop
-loop-less c = (k ≤ n) × (delay ≡ slowTo self k)
+loop-less c = search needs
 
 -- src/lib.rt:159:9
 loop-again : tie.Need-loop-again Inv-loop μ-loop
