@@ -1,8 +1,9 @@
 -- Laws of the greatest of some numbers, and of the last arrival at a part.
 -- Assumes nothing.
 use mathlib.Core.Path.{_≡_, refl, ap}
-use Prim.Native.Nat.{ℕ, zero, suc, _+_, _≤_, _<_}
-use native.Mathlib.Decide.{ℕ-discrete}
+use Prim.Native.Nat.{ℕ, zero, suc, max, _+_, _≤_, _<_}
+use native.Mathlib.Numerals.{add-one}
+use native.Mathlib.Decide.{ℕ-discrete, decLe}
 use native.Mathlib.Omega.{arith}
 use Rattle.theory.specs.Sum.{share}
 use Rattle.theory.proofs.SumLaws.{share-eq, share-ne, below-suc}
@@ -18,6 +19,21 @@ pub greatest-le : (m : ℕ) (f : ℕ → ℕ) (b : ℕ) → ((l : ℕ) → l < m
 unfolding greatest
 greatest-le zero f b h = omega arith
 greatest-le (suc m) f b h = omega (arith, greatest-le m f b (λ l k. h l (omega arith)), h m (omega arith))
+
+-- one number more, as a loop's counter goes on
+pub greatest-next : (m : ℕ) (f : ℕ → ℕ) → greatest (m + 1) f ≡ max (greatest m f) (f m)
+unfolding greatest
+greatest-next m f = rw add-one
+
+-- it is 0, or one of them
+pub greatest-at : (m : ℕ) (f : ℕ → ℕ) → 0 < greatest m f → (l : ℕ) × (l < m) × (f l ≡ greatest m f)
+unfolding greatest
+greatest-at zero f h = absurd (omega arith)
+greatest-at (suc m) f h =
+    elim (decLe (greatest m f) (f m)) [
+      | yes a ↦ (m, omega arith, omega arith)
+      | no a ↦ let r = greatest-at m f (omega arith) in (r .0, omega (arith, r .1), omega (arith, r .2))
+    ]
 
 module _ (G : Graph) where
   open Graph G using (links, from, to, wire)
@@ -47,3 +63,15 @@ module _ (G : Graph) where
   pub arrive-ext : (e e′ : ℕ → ℕ) (p : ℕ) → ((l : ℕ) → l < links → to l ≡ p → e (from l) ≡ e′ (from l)) → arrive G e p ≡ arrive G e′ p
   arrive-ext e e′ p h =
       omega (arith, arrive-mono e e′ p (λ l k q. omega (arith, h l k q)), arrive-mono e′ e p (λ l k q. omega (arith, h l k q)))
+
+  -- it is 0, or what one of those parts' links brings
+  pub arrive-at :
+      (e : ℕ → ℕ) (p : ℕ) → 0 < arrive G e p → (l : ℕ) × (l < links) × (to l ≡ p) × (e (from l) + wire l ≡ arrive G e p)
+  unfolding arrive
+  arrive-at e p h =
+      let r = greatest-at links (λ l. share (to l) p (e (from l) + wire l)) h in
+      let l = r .0 in
+      elim (ℕ-discrete (to l) p) [
+        | yes q ↦ (l, r .1, q, omega (arith, r .2, share-eq (e (from l) + wire l) q))
+        | no d ↦ absurd (omega (arith, r .2, share-ne (e (from l) + wire l) d))
+      ]

@@ -6,3 +6,16 @@ pub mod TotalLaws
 pub mod ArriveLaws
 pub mod TimedLaws
 pub mod Rounds
+pub mod Alike
+pub mod Tightening
+pub mod Duality
+pub mod ValueBounds
+pub mod Earliest
+pub mod Finding
+pub mod LeastTimes
+pub mod Lowering
+pub mod Pushing
+pub mod Trail
+pub mod Search
+pub mod StrongDuality
+pub mod Existence

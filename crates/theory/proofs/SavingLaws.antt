@@ -9,28 +9,28 @@ use Rattle.theory.specs.Sum.{sum}
 use Rattle.theory.specs.Saving.{Suits, Falling, saves}
 use Rattle.theory.proofs.SumLaws.{sum-const, sum-mono, below-suc}
 
--- sums of two functions that are in order from lo up to hi
-span-le : (fewest most : ℕ) {f g : ℕ → ℕ} → fewest ≤ most → ((j : ℕ) → fewest ≤ j → j < most → f j ≤ g j) → sum most f + sum fewest g ≤ sum most g + sum fewest f
+-- sums of two functions that are in order from low up to high
+span-le : (low high : ℕ) {f g : ℕ → ℕ} → low ≤ high → ((j : ℕ) → low ≤ j → j < high → f j ≤ g j) → sum high f + sum low g ≤ sum high g + sum low f
 unfolding sum
-span-le fewest zero l h = let e : fewest ≡ 0 = omega arith in rw e (omega arith)
-span-le fewest (suc most) l h =
-    elim (ℕ-discrete fewest (suc most)) [
+span-le low zero l h = let e : low ≡ 0 = omega arith in rw e (omega arith)
+span-le low (suc high) l h =
+    elim (ℕ-discrete low (suc high)) [
       | yes e ↦ rw e (omega arith)
-      | no d ↦ omega (arith, span-le fewest most (omega arith) (λ j a b. h j a (omega arith)), h most (omega arith) (omega arith))
+      | no d ↦ omega (arith, span-le low high (omega arith) (λ j a b. h j a (omega arith)), h high (omega arith) (omega arith))
     ]
 
 -- and equal there, if the sums are in order the other way too
 span-eq :
-    (fewest most : ℕ) {f g : ℕ → ℕ} → fewest ≤ most → ((j : ℕ) → fewest ≤ j → j < most → f j ≤ g j) →
-    sum most g + sum fewest f ≤ sum most f + sum fewest g → (j : ℕ) → fewest ≤ j → j < most → f j ≡ g j
+    (low high : ℕ) {f g : ℕ → ℕ} → low ≤ high → ((j : ℕ) → low ≤ j → j < high → f j ≤ g j) →
+    sum high g + sum low f ≤ sum high f + sum low g → (j : ℕ) → low ≤ j → j < high → f j ≡ g j
 unfolding sum
-span-eq fewest zero l h e j a b = omega arith
-span-eq fewest (suc most) {f} {g} l h e j a b =
-    let h′ : (j : ℕ) → fewest ≤ j → j < most → f j ≤ g j = λ j a b. h j a (omega arith) in
-    let le : sum most f + sum fewest g ≤ sum most g + sum fewest f = span-le fewest most (omega arith) h′ in
-    let last : f most ≤ g most = h most (omega arith) (omega arith) in
-    below-suc {P = λ j. fewest ≤ j → f j ≡ g j}
-    (λ j b a. span-eq fewest most (omega arith) h′ (omega arith) j a b)
+span-eq low zero l h e j a b = omega arith
+span-eq low (suc high) {f} {g} l h e j a b =
+    let h′ : (j : ℕ) → low ≤ j → j < high → f j ≤ g j = λ j a b. h j a (omega arith) in
+    let le : sum high f + sum low g ≤ sum high g + sum low f = span-le low high (omega arith) h′ in
+    let last : f high ≤ g high = h high (omega arith) (omega arith) in
+    below-suc {P = λ j. low ≤ j → f j ≡ g j}
+    (λ j b a. span-eq low high (omega arith) h′ (omega arith) j a b)
     (λ a. omega arith)
     j b a
 
@@ -39,7 +39,7 @@ module _ {g : ℕ → ℕ} {t x : ℕ} (s : Suits g t x) where
   pub best : (u : ℕ) → saves g u + x * t ≤ saves g t + x * u
   best u =
       elim (decLe t u) [
-        | yes l ↦ omega (arith, sum-const t x, sum-const u x, span-le t u {f = g} {g = λ i. x} l (λ j a b. s .unused j a))
+        | yes l ↦ omega (arith, sum-const t x, sum-const u x, span-le t u {f = g} {g = λ i. x} l (λ j a b. omega (arith, s .unused j a)))
         | no l ↦ omega (arith, sum-const t x, sum-const u x, span-le u t {f = λ i. x} {g = g} (omega arith) (λ j a b. s .used j b))
       ]
 
