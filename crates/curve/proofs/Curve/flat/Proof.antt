@@ -1,3 +1,5 @@
+-- `curve::Curve::flat` meets its contract.
+-- Assumes nothing.
 use mathlib.Core.Path.{refl}
 use Rattle.curve.specs.Answers.{flatOf}
 use borrow.Author.Needs.{needs}

@@ -1,3 +1,5 @@
+-- `curve::Run::is_blank` meets its contract.
+-- Assumes nothing.
 use Rattle.base.specs.Pick.{pick}
 use Rattle.base.proofs.Tests.{tests}
 use Rattle.curve.specs.Tests.{blankb}
