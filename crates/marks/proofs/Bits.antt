@@ -12,7 +12,7 @@ use lib.Dec.{ltb, lit<}
 use borrow.Author.Tests.{lt-ltb, le-ltb}
 use Rattle.base.specs.Pick.{pick}
 use Rattle.base.proofs.Cases.{lt-or-le, eq-or-ne}
-use Rattle.marks.specs.Marks.{bit, unionOf, withoutOf, oneOf, insertOf, removeOf}
+use Rattle.marks.specs.Marks.{bit, unionOf, withoutOf, oneOf, insertOf, removeOf, Exactly}
 
 -- ---- bits go by halves
 pub bit-zero : (s : ℕ) → bit s 0 ≡ s % 2
@@ -176,3 +176,7 @@ pub same-marks : (a b : ℕ) → a < 2 ^ 64 → b < 2 ^ 64 → ((n : ℕ) → bi
 same-marks a b ha hb to from =
     same-bits a b ha hb
     (λ n. ⊎-elim (λ h. h ∙ sym (to n h)) (λ h. ⊎-elim (λ g. absurd (omega (arith, from n g))) (λ g. h ∙ sym g) (bit-or-not b n)) (bit-or-not a n))
+
+-- there is one set of exactly the parts of which R holds
+pub exactly-once : (R : ℕ → Type 0) (a b : ℕ) → Exactly R a → Exactly R b → a ≡ b
+exactly-once R a b x y = same-marks a b (x .fits) (y .fits) (λ n h. y .all n (x .marked n h)) (λ n h. x .all n (y .marked n h))

@@ -124,3 +124,16 @@ lowest-to s = lowest-to-below 64 s
 
 pub lowest-below : (s : ℕ) → (s ≡ 0 → ⊥) → s < 2 ^ 64 → lowestOf s < 64
 lowest-below s ne f = mark-below s (lowestOf s) f (lowest-is s ne f)
+
+-- without a mark it is 64
+pub lowest-nothing : lowestOf 0 ≡ 64
+unfolding lowestOf trailingZeros
+lowest-nothing = refl
+
+-- so a lowest mark below 64 is one
+pub lowest-mark : (s : ℕ) → s < 2 ^ 64 → lowestOf s < 64 → bit s (lowestOf s) ≡ 1
+lowest-mark s f h = lowest-is s (λ e. let n : lowestOf s ≡ 64 = rw e lowest-nothing in omega arith) f
+
+-- and where it is not below 64 the set is empty
+pub lowest-past : (s : ℕ) → s < 2 ^ 64 → 64 ≤ lowestOf s → s ≡ 0
+lowest-past s f h = ⊎-elim (λ e. e) (λ ne. absurd (omega (arith, lowest-below s ne f))) (eq-or-ne s 0)

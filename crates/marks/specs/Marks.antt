@@ -1,7 +1,8 @@
 -- 01, Questions about a held board: "a set of 64 marks, bit n for part n". Part n is in the set s where `bit s n ≡ 1`.
 -- Assumes nothing.
+use mathlib.Core.Path.{_≡_}
 use mathlib.Core.Bool.{Bool}
-use Prim.Native.Nat.{ℕ, _/_, _%_, _^_}
+use Prim.Native.Nat.{ℕ, _/_, _%_, _^_, _<_}
 use lib.Bits.{bitOr, bitXor}
 use lib.Count.{trailingZeros}
 use lib.Dec.{eqb, ltb}
@@ -35,3 +36,9 @@ removeOf s n = withoutOf s (oneOf n)
 -- "trailing zeros the next part": the lowest mark, and 64 where there is none
 unfoldable pub lowestOf : ℕ → ℕ
 lowestOf s = trailingZeros 64 s
+
+-- the set of 64 marks that has the parts of which R holds, and no other
+pub record Exactly (R : ℕ → Type 0) (set : ℕ) : Type 0 where
+  pub fits : set < 2 ^ 64
+  pub marked : (n : ℕ) → bit set n ≡ 1 → R n
+  pub all : (n : ℕ) → R n → bit set n ≡ 1

@@ -1,0 +1,5 @@
+pub mod Ways
+pub mod Marked
+pub mod Sweeping
+pub mod Cones
+pub mod Loops
