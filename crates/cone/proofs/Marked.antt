@@ -43,7 +43,7 @@ module _ (rows : List ℕ) (l : Link) where
 
   with-other : (p : ℕ) → p ≢ l .from → getD (withLinkOf rows l) p 0 ≡ getD rows p 0
   with-other p ne =
-    ⊎-elim (λ h. rw (with-put h) (getD-set-other rows (l .from) p _ 0 ne)) (λ h. rw (with-past h)) (lt-or-le (l .from) 64)
+      ⊎-elim (λ h. rw (with-put h) (getD-set-other rows (l .from) p _ 0 ne)) (λ h. rw (with-past h)) (lt-or-le (l .from) 64)
 
 -- ---- the rows of the first k links
 module _ (b : Board) (back : Bool) where
@@ -67,31 +67,31 @@ module _ (b : Board) (back : Bool) where
   unfolding rowsUpTo noRows
   mark-entry zero p q h = let z : bit (getD {A = ℕ} (replicate 64 0) p 0) q ≡ 0 = rw (zeros-at 64 p) (bit-none q) in absurd (omega arith)
   mark-entry (suc k) p q h =
-    let l = turnedOf back (linkAt b k) in
-    let row = rowsUpTo b back k in
-    let before : bit (getD row p 0) q ≡ 1 → Entry (suc k) p q = λ g. entry-more k p q (mark-entry k p q g) in
-    ⊎-elim
+      let l = turnedOf back (linkAt b k) in
+      let row = rowsUpTo b back k in
+      let before : bit (getD row p 0) q ≡ 1 → Entry (suc k) p q = λ g. entry-more k p q (mark-entry k p q g) in
+      ⊎-elim
       (λ same.
-        ⊎-elim
-          (λ here.
-            let got : bit (insertOf (getD row p 0) (l .to)) q ≡ 1 = rw (with-same row l p same (rows-length k) here) at h in
-            ⊎-elim
-              (λ e. record { link = k; here = omega arith; from = sym same; to = e })
-              (λ ne. before (sym (insert-other (getD row p 0) (l .to) q ne) ∙ got))
-              (eq-or-ne (l .to) q))
-          (λ past. before (rw (with-past row l past) at h))
-          (lt-or-le (l .from) 64))
+      ⊎-elim
+      (λ here.
+      let got : bit (insertOf (getD row p 0) (l .to)) q ≡ 1 = rw (with-same row l p same (rows-length k) here) at h in
+      ⊎-elim
+      (λ e. record { link = k; here = omega arith; from = sym same; to = e })
+      (λ ne. before (sym (insert-other (getD row p 0) (l .to) q ne) ∙ got))
+      (eq-or-ne (l .to) q))
+      (λ past. before (rw (with-past row l past) at h))
+      (lt-or-le (l .from) 64))
       (λ ne. before (rw (with-other row l p ne) at h))
       (eq-or-ne p (l .from))
 
   with-keeps : (row : List ℕ) (l : Link) (p q : ℕ) → length row ≡ 64 → bit (getD row p 0) q ≡ 1 → bit (getD (withLinkOf row l) p 0) q ≡ 1
   with-keeps row l p q len h =
-    ⊎-elim
+      ⊎-elim
       (λ same.
-        ⊎-elim
-          (λ here. rw (with-same row l p same len here) (insert-keeps (getD row p 0) (l .to) q h))
-          (λ past. rw (with-past row l past) h)
-          (lt-or-le (l .from) 64))
+      ⊎-elim
+      (λ here. rw (with-same row l p same len here) (insert-keeps (getD row p 0) (l .to) q h))
+      (λ past. rw (with-past row l past) h)
+      (lt-or-le (l .from) 64))
       (λ ne. rw (with-other row l p ne) h)
       (eq-or-ne p (l .from))
 
@@ -100,9 +100,9 @@ module _ (b : Board) (back : Bool) where
   unfolding rowsUpTo
   entry-mark zero i h f t = absurd (omega arith)
   entry-mark (suc k) i h f t =
-    let l = turnedOf back (linkAt b i) in
-    let row = rowsUpTo b back k in
-    ⊎-elim
+      let l = turnedOf back (linkAt b i) in
+      let row = rowsUpTo b back k in
+      ⊎-elim
       (λ new. rw (← new, with-same (rowsUpTo b back i) l (l .from) refl (rows-length i) f) (insert-same (getD (rowsUpTo b back i) (l .from) 0) (l .to) t))
       (λ ne. with-keeps row (turnedOf back (linkAt b k)) (l .from) (l .to) (rows-length k) (entry-mark k i (omega arith) f t))
       (eq-or-ne i k)
@@ -111,14 +111,14 @@ module _ (b : Board) (back : Bool) where
   unfolding rowsUpTo noRows
   rows-fit-up-to zero p = rw (zeros-at 64 p) (lit< tt)
   rows-fit-up-to (suc k) p =
-    let l = turnedOf back (linkAt b k) in
-    let row = rowsUpTo b back k in
-    ⊎-elim
+      let l = turnedOf back (linkAt b k) in
+      let row = rowsUpTo b back k in
+      ⊎-elim
       (λ same.
-        ⊎-elim
-          (λ here. rw (with-same row l p same (rows-length k) here) (insert-fits (getD row p 0) (l .to) (rows-fit-up-to k p)))
-          (λ past. rw (with-past row l past) (rows-fit-up-to k p))
-          (lt-or-le (l .from) 64))
+      ⊎-elim
+      (λ here. rw (with-same row l p same (rows-length k) here) (insert-fits (getD row p 0) (l .to) (rows-fit-up-to k p)))
+      (λ past. rw (with-past row l past) (rows-fit-up-to k p))
+      (lt-or-le (l .from) 64))
       (λ ne. rw (with-other row l p ne) (rows-fit-up-to k p))
       (eq-or-ne p (l .from))
 
@@ -140,23 +140,23 @@ module _ (b : Board) (ok : WellFormed b) where
   pub row-linked : (p q : ℕ) → bit (getD (rowsOf b false) p 0) q ≡ 1 → Linked b p q
   unfolding rowsOf turnedOf pick
   row-linked p q h =
-    let e : Entry b false (min (b .links) 256) p q = mark-entry b false (min (b .links) 256) p q h in
-    record { link = e .link; here = omega (arith, e .here); from = e .from; to = e .to }
+      let e : Entry b false (min (b .links) 256) p q = mark-entry b false (min (b .links) 256) p q h in
+      record { link = e .link; here = omega (arith, e .here); from = e .from; to = e .to }
 
   pub column-linked : (p q : ℕ) → bit (getD (rowsOf b true) p 0) q ≡ 1 → Linked b q p
   unfolding rowsOf turnedOf pick
   column-linked p q h =
-    let e : Entry b true (min (b .links) 256) p q = mark-entry b true (min (b .links) 256) p q h in
-    record { link = e .link; here = omega (arith, e .here); from = e .to; to = e .from }
+      let e : Entry b true (min (b .links) 256) p q = mark-entry b true (min (b .links) 256) p q h in
+      record { link = e .link; here = omega (arith, e .here); from = e .to; to = e .from }
 
   pub linked-row : (p q : ℕ) → Linked b p q → bit (getD (rowsOf b false) p 0) q ≡ 1
   unfolding rowsOf turnedOf pick
   linked-row p q l =
-    rw (all-links, ← l .from, ← l .to)
+      rw (all-links, ← l .from, ← l .to)
       (entry-mark b false (b .links) (l .link) (l .here) (omega (arith, from-below p q l, l .from)) (omega (arith, to-below p q l, l .to)))
 
   pub linked-column : (p q : ℕ) → Linked b p q → bit (getD (rowsOf b true) q 0) p ≡ 1
   unfolding rowsOf turnedOf pick
   linked-column p q l =
-    rw (all-links, ← l .from, ← l .to)
+      rw (all-links, ← l .from, ← l .to)
       (entry-mark b true (b .links) (l .link) (l .here) (omega (arith, to-below p q l, l .to)) (omega (arith, from-below p q l, l .from)))

@@ -34,14 +34,14 @@ module _ (rows : List ℕ) (from : ℕ) (rows-fit : (p : ℕ) → getD rows p 0 
 
   sound-first : Sound (record { done = 0; todo = from })
   sound-first =
-    record {
-      done-fits = lit< tt;
-      todo-fits = from-fits;
-      apart = λ q h. bit-none q;
-      starts = λ q h. omega arith;
-      reached = λ q h. start {q = q} (omega (arith, bit-none q, bit-lt from q));
-      onward = λ p q h g. absurd (omega (arith, bit-none p));
-    }
+      record {
+        done-fits = lit< tt;
+        todo-fits = from-fits;
+        apart = λ q h. bit-none q;
+        starts = λ q h. omega arith;
+        reached = λ q h. start {q = q} (omega (arith, bit-none q, bit-lt from q));
+        onward = λ p q h g. absurd (omega (arith, bit-none p));
+      }
 
   -- ---- a step that visits part p
   module _ (s : Sweep) (ok : Sound s) (p : ℕ) (next : bit (s .todo) p ≡ 1) (part : p < 64) where
@@ -76,25 +76,25 @@ module _ (rows : List ℕ) (from : ℕ) (rows-fit : (p : ℕ) → getD rows p 0 
 
     seen-reached : (q : ℕ) → 1 ≤ bit done q + bit todo q → Reached rows from q
     seen-reached q h =
-      ⊎-elim
+        ⊎-elim
         (λ d. ⊎-elim (λ e. rw (← e) next-reached) (λ was. ok .reached q (omega arith)) (done-is q d))
         (λ d. ⊎-elim
-          (λ row. step next-reached row)
-          (λ row. ok .reached q (omega (arith, todo-bit q, bit-lt todo q)))
-          (bit-or-not (getD rows p 0) q))
+        (λ row. step next-reached row)
+        (λ row. ok .reached q (omega (arith, todo-bit q, bit-lt todo q)))
+        (bit-or-not (getD rows p 0) q))
         (bit-or-not done q)
 
     sound-visited : Sound (record { done = done; todo = todo })
     unfolding done todo
     sound-visited =
-      record {
-        done-fits = insert-fits (s .done) p (ok .done-fits);
-        todo-fits = without-fits _ _ (union-fits (s .todo) (getD rows p 0) (ok .todo-fits) (rows-fit p)) (insert-fits (s .done) p (ok .done-fits));
-        apart = λ q h. omega (arith, todo-bit q, bit-lt done q, bit-lt (s .todo) q, bit-lt (getD rows p 0) q);
-        starts = λ q h. stays q (ok .starts q h);
-        reached = seen-reached;
-        onward = λ a q d h. ⊎-elim (λ e. row-seen q (rw e h)) (λ was. stays q (ok .onward a q was h)) (done-is a d);
-      }
+        record {
+          done-fits = insert-fits (s .done) p (ok .done-fits);
+          todo-fits = without-fits _ _ (union-fits (s .todo) (getD rows p 0) (ok .todo-fits) (rows-fit p)) (insert-fits (s .done) p (ok .done-fits));
+          apart = λ q h. omega (arith, todo-bit q, bit-lt done q, bit-lt (s .todo) q, bit-lt (getD rows p 0) q);
+          starts = λ q h. stays q (ok .starts q h);
+          reached = seen-reached;
+          onward = λ a q d h. ⊎-elim (λ e. row-seen q (rw e h)) (λ was. stays q (ok .onward a q was h)) (done-is a d);
+        }
 
   -- ---- all steps
   step-goes : (s : Sweep) → lowestOf (s .todo) < 64 → stepOf rows s ≡ visitedOf s (lowestOf (s .todo)) (getD rows (lowestOf (s .todo)) 0)
@@ -108,7 +108,7 @@ module _ (rows : List ℕ) (from : ℕ) (rows-fit : (p : ℕ) → getD rows p 0 
   sound-step : (s : Sweep) → Sound s → Sound (stepOf rows s)
   unfolding visitedOf done todo
   sound-step s ok =
-    ⊎-elim
+      ⊎-elim
       (λ h. rw (step-goes s h) (sound-visited s ok (lowestOf (s .todo)) (lowest-mark (s .todo) (ok .todo-fits) h) h))
       (λ h. rw (step-stays s h) ok)
       (lt-or-le (lowestOf (s .todo)) 64)
@@ -126,7 +126,7 @@ module _ (rows : List ℕ) (from : ℕ) (rows-fit : (p : ℕ) → getD rows p 0 
   unfolding visitedOf
   counts-step s k ok (inl h) = inl (rw (step-stays s h) h)
   counts-step s k ok (inr c) =
-    ⊎-elim (λ h. inr (rw (step-goes s h) (omega (arith, visits-more s ok h)))) (λ h. inl (rw (step-stays s h) h)) (lt-or-le (lowestOf (s .todo)) 64)
+      ⊎-elim (λ h. inr (rw (step-goes s h) (omega (arith, visits-more s ok h)))) (λ h. inl (rw (step-stays s h) h)) (lt-or-le (lowestOf (s .todo)) 64)
 
   counts : (k : ℕ) → (64 ≤ lowestOf (sweepUpTo rows from k .todo)) ⊎ (k ≤ ones (sweepUpTo rows from k .done))
   unfolding sweepUpTo
@@ -137,7 +137,7 @@ module _ (rows : List ℕ) (from : ℕ) (rows-fit : (p : ℕ) → getD rows p 0 
   stops : (s : Sweep) → Sound s → (64 ≤ lowestOf (s .todo)) ⊎ (64 ≤ ones (s .done)) → s .todo ≡ 0
   stops s ok (inl h) = lowest-past (s .todo) (ok .todo-fits) h
   stops s ok (inr c) =
-    ⊎-elim
+      ⊎-elim
       (λ h. absurd (omega (arith, visits-more s ok h, ones-to (insertOf (s .done) (lowestOf (s .todo))) (insert-fits (s .done) (lowestOf (s .todo)) (ok .done-fits)))))
       (λ h. lowest-past (s .todo) (ok .todo-fits) h)
       (lt-or-le (lowestOf (s .todo)) 64)
@@ -158,4 +158,4 @@ module _ (rows : List ℕ) (from : ℕ) (rows-fit : (p : ℕ) → getD rows p 0 
   unfolding reachedOf
   reached-all q (start h) = omega (arith, sound 64 .starts q h, none-left q, bit-lt (sweepUpTo rows from 64 .done) q)
   reached-all q (step {p = p} r h) =
-    omega (arith, sound 64 .onward p q (reached-all p r) h, none-left q, bit-lt (sweepUpTo rows from 64 .done) q)
+      omega (arith, sound 64 .onward p q (reached-all p r) h, none-left q, bit-lt (sweepUpTo rows from 64 .done) q)

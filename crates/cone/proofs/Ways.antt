@@ -78,10 +78,10 @@ module _ (rows : List ℕ) (from : ℕ) where
   pub sweep-stopped : (s : Sweep) (k p : ℕ) → s ≡ sweepUpTo rows from k → k < 64 → p ≡ lowestOf (s .todo) → 64 ≤ p → s .done ≡ reachedOf rows from
   unfolding reachedOf
   sweep-stopped s k p is h e stop =
-    let none : 64 ≤ lowestOf (sweepUpTo rows from k .todo) = rw (← is, ← e) stop in
-    let sum : k + (64 - k) ≡ 64 = omega arith in
-    let all : sweepUpTo rows from 64 ≡ sweepUpTo rows from k = rw sum at (sweep-stays k (64 - k) none) in
-    ap (λ (x : Sweep). x .done) (is ∙ sym all)
+      let none : 64 ≤ lowestOf (sweepUpTo rows from k .todo) = rw (← is, ← e) stop in
+      let sum : k + (64 - k) ≡ 64 = omega arith in
+      let all : sweepUpTo rows from 64 ≡ sweepUpTo rows from k = rw sum at (sweep-stays k (64 - k) none) in
+      ap (λ (x : Sweep). x .done) (is ∙ sym all)
 
   pub sweep-done : (s : Sweep) (k : ℕ) → s ≡ sweepUpTo rows from k → k ≤ 64 → 64 ≤ k → s .done ≡ reachedOf rows from
   unfolding reachedOf
