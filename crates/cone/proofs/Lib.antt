@@ -3,3 +3,4 @@ pub mod Marked
 pub mod Sweeping
 pub mod Cones
 pub mod Loops
+pub mod Examples
