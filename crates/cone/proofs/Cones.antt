@@ -32,6 +32,25 @@ module _ (b : Board) where
   path-reach l (here e) = rw (← e) (one l)
   path-reach l (by t) = more l t
 
+-- ---- what is on a path is a part of the board
+module _ (b : Board) (ok : WellFormed b) where
+  pub path-from : {p q : ℕ} → Path b p q → p < b .parts
+  path-from (one l) = omega (arith, ok .from-in (l .link) (l .here), l .from)
+  path-from (more l t) = omega (arith, ok .from-in (l .link) (l .here), l .from)
+
+  pub path-to : {p q : ℕ} → Path b p q → q < b .parts
+  path-to (one l) = omega (arith, ok .to-in (l .link) (l .here), l .to)
+  path-to (more l t) = path-to t
+
+  -- so a cone of a part holds parts
+  pub reach-to : {p q : ℕ} → p < b .parts → Reach b p q → q < b .parts
+  reach-to h (here e) = rw (← e) h
+  reach-to h (by t) = path-to t
+
+  pub reach-from : {p q : ℕ} → q < b .parts → Reach b p q → p < b .parts
+  reach-from h (here e) = rw e h
+  reach-from h (by t) = path-from t
+
 -- the set of p alone holds p
 one-is-it : (p q : ℕ) → bit (oneOf p) q ≡ 1 → p ≡ q
 one-is-it p q h = ⊎-elim (λ e. e) (λ ne. absurd (omega (arith, bit-one-other p q ne))) (eq-or-ne p q)

@@ -24,10 +24,10 @@ use Rattle.board.specs.Path.{Path, one, more, Reach, here, by, LoopFree}
 use Rattle.cone.specs.declared.Loop.{Loop}
 use Rattle.cone.specs.declared.Loop.the-variants.{At, Free}
 use Rattle.cone.specs.Cone.{Upstream, LowestOnLoop, LoopSaid}
-use Rattle.cone.specs.Sweeps.{rowsOf, reachedOf, upstreamOf, onLoopOf, first, loopUpTo, loopOf}
+use Rattle.cone.specs.Sweeps.{rowsOf, reachedOf, upstreamOf, onLoopOf, foundElse, loopUpTo, loopOf}
 use Rattle.cone.proofs.Marked.{rows-fit, row-linked, linked-row}
 use Rattle.cone.proofs.Sweeping.{Reached, start, step, reached-marked, reached-all}
-use Rattle.cone.proofs.Cones.{path-link, reach-path, walk, upstream-is}
+use Rattle.cone.proofs.Cones.{path-link, reach-path, path-from, walk, upstream-is}
 
 -- ---- a part is on a loop where the sweep from its row comes to it
 module _ (b : Board) (ok : WellFormed b) where
@@ -50,11 +50,6 @@ module _ (b : Board) (ok : WellFormed b) where
   path-on-loop p t =
       let rows = rowsOf b false in
       eq-eqb _ 1 (reached-all rows (getD rows p 0) (rows-fit b false) (rows-fit b false p) p (path-reached t))
-
-  -- a part on a loop is a part of the board
-  path-part : {p q : ℕ} → Path b p q → p < b .parts
-  path-part (one l) = omega (arith, ok .from-in (l .link) (l .here), l .from)
-  path-part (more l t) = omega (arith, ok .from-in (l .link) (l .here), l .from)
 
 -- ---- the search from part 0 upward
 true-not-false : true ≡ false → ⊥
@@ -90,7 +85,7 @@ module _ (rows : List ℕ) where
   Searched k (At p) = (p < k) × ((onLoopOf rows p ≡ true) × ((q : ℕ) → q < p → onLoopOf rows q ≡ false))
   Searched k Free = (q : ℕ) → q < k → onLoopOf rows q ≡ false
 
-  searched-step : (k : ℕ) (a : Loop) (t : Bool) → t ≡ onLoopOf rows k → Searched k a → Searched (suc k) (first a (pick t (At k) Free))
+  searched-step : (k : ℕ) (a : Loop) (t : Bool) → t ≡ onLoopOf rows k → Searched k a → Searched (suc k) (foundElse a (pick t (At k) Free))
   unfolding Searched pick
   searched-step k (At p) t e s = (omega (arith, s .0), s .1)
   searched-step k Free true e s = (omega arith, (sym e, s))
@@ -114,8 +109,10 @@ module _ (b : Board) (ok : WellFormed b) where
   pub lowest-loop-is : LoopSaid b (loopOf b)
   unfolding loopOf
   lowest-loop-is =
-      let all : min (b .parts) 64 ≡ b .parts = omega (arith, ok .parts-to) in
-      searched-said (loopUpTo (rowsOf b false) (min (b .parts) 64)) (subst (λ (n : ℕ). Searched (rowsOf b false) n (loopUpTo (rowsOf b false) (min (b .parts) 64))) all (searched (rowsOf b false) (min (b .parts) 64)))
+      let rows = rowsOf b false in
+      let n = min (b .parts) 64 in
+      let all : n ≡ b .parts = omega (arith, ok .parts-to) in
+      searched-said (loopUpTo rows n) (subst (λ (m : ℕ). Searched rows m (loopUpTo rows n)) all (searched rows n))
 
   -- the answer is one
   pub loop-said-once : (x y : Loop) → LoopSaid b x → LoopSaid b y → x ≡ y
@@ -124,8 +121,8 @@ module _ (b : Board) (ok : WellFormed b) where
       (λ l. absurd (y .lowest p l (x .on)))
       (λ l. ⊎-elim (λ m. absurd (x .lowest q m (y .on))) (λ m. ap At (le-antisymm m l)) (lt-or-le q p))
       (lt-or-le p q)
-  loop-said-once (At p) Free x y = absurd (y .none p (path-part b ok (x .on)) (x .on))
-  loop-said-once Free (At q) x y = absurd (x .none q (path-part b ok (y .on)) (y .on))
+  loop-said-once (At p) Free x y = absurd (y .none p (path-from b ok (x .on)) (x .on))
+  loop-said-once Free (At q) x y = absurd (x .none q (path-from b ok (y .on)) (y .on))
   loop-said-once Free Free x y = refl
 
 -- ---- `lowest_on_loop`

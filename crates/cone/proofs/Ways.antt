@@ -75,7 +75,7 @@ module _ (rows : List ℕ) (from : ℕ) where
   sweep-stays k zero h = rw add-zero
   sweep-stays k (suc d) h = rw (add-suc, sweep-stays k d h, le-ltb _ 64 h)
 
-  pub sweep-stopped : (s : Sweep) (k p : ℕ) → s ≡ sweepUpTo rows from k → k < 64 → p ≡ lowestOf (s .todo) → 64 ≤ p → s .done ≡ reachedOf rows from
+  pub sweep-stopped : (s : Sweep) (k p : ℕ) → s ≡ sweepUpTo rows from k → k ≤ 64 → p ≡ lowestOf (s .todo) → 64 ≤ p → s .done ≡ reachedOf rows from
   unfolding reachedOf
   sweep-stopped s k p is h e stop =
       let none : 64 ≤ lowestOf (sweepUpTo rows from k .todo) = rw (← is, ← e) stop in

@@ -1,4 +1,4 @@
--- The sets as they are computed, by rows of marks.
+-- The sets as they are computed, by rows of marks. `Cone.antt` says what they mean, and the laws in `proofs/` that they mean it.
 -- Assumes nothing.
 use mathlib.Core.Bool.{Bool, false, true}
 use mathlib.Core.List.{List}
@@ -61,13 +61,14 @@ upstreamOf b p = coneOf b true p
 unfoldable pub onLoopOf : List ℕ → ℕ → Bool
 onLoopOf rows p = hasOf (reachedOf rows (getD rows p 0)) p
 
-abbrev pub first : Loop → Loop → Loop
-first (At p) next = At p
-first Free next = next
+-- what was found, else what the next part gives
+abbrev pub foundElse : Loop → Loop → Loop
+foundElse (At p) next = At p
+foundElse Free next = next
 
 unfoldable pub loopUpTo : List ℕ → ℕ → Loop
 loopUpTo rows zero = Free
-loopUpTo rows (suc k) = first (loopUpTo rows k) (pick (onLoopOf rows k) (At k) Free)
+loopUpTo rows (suc k) = foundElse (loopUpTo rows k) (pick (onLoopOf rows k) (At k) Free)
 
 unfoldable pub loopOf : Board → Loop
 loopOf b = loopUpTo (rowsOf b false) (min (b .parts) 64)

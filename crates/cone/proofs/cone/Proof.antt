@@ -4,9 +4,6 @@ use Rattle.cone.proofs.Ways.{cone-so}
 use borrow.Author.Needs.{needs}
 use Rattle.cone.proofs.cone.Statement.{statement}
 use Rattle.cone.proofs.cone.Tie as tie
-use Rattle.cone.proofs.reached.Reads as reached-reads
-use Rattle.cone.proofs.rows.Reads as rows-reads
-use Rattle.marks.proofs.one.Reads as one-reads
 
 rows-requires : tie.Need-rows-requires
 rows-requires c κs = search needs

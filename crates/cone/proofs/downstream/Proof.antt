@@ -4,7 +4,6 @@ use Rattle.cone.proofs.Cones.{downstream-said}
 use borrow.Author.Needs.{needs}
 use Rattle.cone.proofs.downstream.Statement.{statement}
 use Rattle.cone.proofs.downstream.Tie as tie
-use Rattle.cone.proofs.cone.Reads as cone-reads
 
 cone-requires : tie.Need-cone-requires
 cone-requires c κs = search needs

@@ -8,9 +8,6 @@ use Rattle.cone.proofs.Loops.{free-none, free-more, said-at, said-free}
 use borrow.Author.Needs.{needs}
 use Rattle.cone.proofs.lowest_on_loop.Statement.{statement}
 use Rattle.cone.proofs.lowest_on_loop.Tie as tie
-use Rattle.cone.proofs.capped.Reads as capped-reads
-use Rattle.cone.proofs.on_loop.Reads as on-loop-reads
-use Rattle.cone.proofs.rows.Reads as rows-reads
 
 abbrev Inv-loop : tie.InvT-loop
 Inv-loop n rows p₀ p = (p ≤ n) × (loopUpTo rows p ≡ Free)

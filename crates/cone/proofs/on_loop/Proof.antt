@@ -4,8 +4,6 @@ use Rattle.cone.proofs.Ways.{on-loop-so}
 use borrow.Author.Needs.{needs}
 use Rattle.cone.proofs.on_loop.Statement.{statement}
 use Rattle.cone.proofs.on_loop.Tie as tie
-use Rattle.cone.proofs.reached.Reads as reached-reads
-use Rattle.marks.proofs.has.Reads as has-reads
 
 mul-reached : tie.Need-mul-reached
 mul-reached c = search needs

@@ -1,3 +1,5 @@
+-- `reached` meets its contract. The loop has visited k parts.
+-- Assumes nothing.
 use mathlib.Core.Path.{_≡_}
 use Prim.Native.Nat.{_-_, _≤_}
 use Rattle.cone.specs.Sweeps.{sweepUpTo}
@@ -5,10 +7,6 @@ use Rattle.cone.proofs.Ways.{sweep-none, sweep-more, sweep-stopped, swe
 use borrow.Author.Needs.{needs}
 use Rattle.cone.proofs.reached.Statement.{statement}
 use Rattle.cone.proofs.reached.Tie as tie
-use Rattle.cone.proofs.reached.Reads as reads
-use Rattle.cone.proofs.reached.Lts as lts
-use Rattle.cone.proofs.visited.Reads as visited-reads
-use Rattle.marks.proofs.lowest.Reads as lowest-reads
 
 abbrev Inv-loop : tie.InvT-loop
 Inv-loop rows from s₀ k₀ s k = (k ≤ 64) × (s ≡ sweepUpTo rows from k)
@@ -16,43 +14,33 @@ Inv-loop rows from s₀ k₀ s k = (k ≤ 64) × (s ≡ sweepUpTo rows from k)
 abbrev μ-loop : tie.MeasureT-loop
 μ-loop rows from s₀ k₀ s k = 64 - k
 
--- src/lib.rt:96:5
 loop-holds : tie.Need-loop-holds Inv-loop μ-loop
 loop-holds c = (search needs, search (sweep-none))
 
--- src/lib.rt:97:13
 lowest-requires : tie.Need-lowest-requires Inv-loop μ-loop
 lowest-requires c κs = search needs
 
--- src/lib.rt:99:13
 returns : tie.Need-returns Inv-loop μ-loop
 returns c = search (sweep-stopped)
 
--- src/lib.rt:101:27
 mul-visited : tie.Need-mul-visited Inv-loop μ-loop
 mul-visited c = search needs
 
--- src/lib.rt:101:27
 element-copy-out-visited : tie.Need-element-copy-out-visited Inv-loop μ-loop
 element-copy-out-visited c = search needs
 
--- src/lib.rt:101:9
 visited-requires : tie.Need-visited-requires Inv-loop μ-loop
 visited-requires c κs = search needs
 
--- src/lib.rt:102:13
 add-k : tie.Need-add-k Inv-loop μ-loop
 add-k c = search needs
 
--- src/lib.rt:96:5
 loop-less : tie.Need-loop-less Inv-loop μ-loop
 loop-less c = search needs
 
--- src/lib.rt:96:5
 loop-again : tie.Need-loop-again Inv-loop μ-loop
 loop-again c = (search needs, search (sweep-more))
 
--- src/lib.rt:88:1
 returns-2 : tie.Need-returns-2 Inv-loop μ-loop
 returns-2 c = search (sweep-done)
 

@@ -7,10 +7,6 @@ use Rattle.cone.proofs.Ways.{rows-none, rows-more, rows-done}
 use borrow.Author.Needs.{needs}
 use Rattle.cone.proofs.rows.Statement.{statement}
 use Rattle.cone.proofs.rows.Tie as tie
-use Rattle.cone.proofs.capped.Reads as capped-reads
-use Rattle.cone.proofs.no_rows.Reads as no-rows-reads
-use Rattle.cone.proofs.turned.Reads as turned-reads
-use Rattle.cone.proofs.with_link.Reads as with-link-reads
 
 abbrev Inv-loop : tie.InvT-loop
 Inv-loop back b n rows₀ k₀ rows k = (k ≤ n) × (rows ≡ rowsUpTo b back k)

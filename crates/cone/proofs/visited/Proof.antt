@@ -4,9 +4,6 @@ use Rattle.cone.proofs.Ways.{visited-so}
 use borrow.Author.Needs.{needs}
 use Rattle.cone.proofs.visited.Statement.{statement}
 use Rattle.cone.proofs.visited.Tie as tie
-use Rattle.marks.proofs.insert.Reads as insert-reads
-use Rattle.marks.proofs.union.Reads as union-reads
-use Rattle.marks.proofs.without.Reads as without-reads
 
 insert-requires : tie.Need-insert-requires
 insert-requires c κs = search needs

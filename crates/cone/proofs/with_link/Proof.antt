@@ -4,7 +4,6 @@ use Rattle.cone.proofs.Ways.{link-put, link-past}
 use borrow.Author.Needs.{needs}
 use Rattle.cone.proofs.with_link.Statement.{statement}
 use Rattle.cone.proofs.with_link.Tie as tie
-use Rattle.marks.proofs.insert.Reads as insert-reads
 
 mul-insert : tie.Need-mul-insert
 mul-insert c = search needs

@@ -4,8 +4,6 @@ use Rattle.marks.proofs.Ways.{put}
 use borrow.Author.Needs.{needs}
 use Rattle.marks.proofs.insert.Statement.{statement}
 use Rattle.marks.proofs.insert.Tie as tie
-use Rattle.marks.proofs.one.Reads as one-reads
-use Rattle.marks.proofs.union.Reads as union-reads
 
 one-requires : tie.Need-one-requires
 one-requires c κs = search needs

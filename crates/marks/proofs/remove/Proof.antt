@@ -4,8 +4,6 @@ use Rattle.marks.proofs.Ways.{taken}
 use borrow.Author.Needs.{needs}
 use Rattle.marks.proofs.remove.Statement.{statement}
 use Rattle.marks.proofs.remove.Tie as tie
-use Rattle.marks.proofs.one.Reads as one-reads
-use Rattle.marks.proofs.without.Reads as without-reads
 
 one-requires : tie.Need-one-requires
 one-requires c κs = search needs
