@@ -1,19 +1,18 @@
 -- What a sweep reaches over the rows of a board is downstream, over the rows turned back upstream.
 -- Assumes nothing.
-use mathlib.Core.Path.{_≡_, refl, sym, ap, _∙_}
-use mathlib.Core.Logic.{_⊎_, inl, inr, ⊎-elim}
+use mathlib.Core.Path.{_≡_, sym}
+use mathlib.Core.Logic.{⊎-elim}
 use mathlib.Core.Bool.{Bool, true, false}
-use Prim.Native.Nat.{ℕ, _≤_, _<_, _^_}
+use Prim.Native.Nat.{ℕ, _<_}
 use native.Mathlib.Omega.{arith}
-use lib.ListN.{getD}
 use Rattle.base.proofs.Cases.{eq-or-ne}
-use Rattle.marks.specs.Marks.{bit, oneOf, Exactly}
+use Rattle.marks.specs.Marks.{bit, oneOf}
 use Rattle.marks.proofs.Bits.{bit-one-same, bit-one-other, one-fits, exactly-once}
 use Rattle.board.specs.declared.Board.{Board}
 use Rattle.board.specs.Board.{Linked, WellFormed}
 use Rattle.board.specs.Path.{Path, one, more, Reach, here, by}
 use Rattle.cone.specs.Cone.{Downstream, Upstream}
-use Rattle.cone.specs.Sweeps.{rowsOf, reachedOf, coneOf, downstreamOf, upstreamOf}
+use Rattle.cone.specs.Sweeps.{rowsOf, coneOf, downstreamOf, upstreamOf}
 use Rattle.cone.proofs.Marked.{rows-fit, row-linked, column-linked, linked-row, linked-column}
 use Rattle.cone.proofs.Sweeping.{Reached, start, step, reached-fits, reached-marked, reached-all}
 

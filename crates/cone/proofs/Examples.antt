@@ -1,21 +1,14 @@
 -- Examples that are computed: the cones of 01's case (12), and two boards with loops.
 -- Assumes nothing.
-use mathlib.Core.Path.{_≡_, refl, sym, ap, _∙_}
-use mathlib.Core.Bool.{Bool, true, false}
-use mathlib.Core.List.{List}
-use Prim.Native.Nat.{ℕ, min}
-use lib.ListN.{getD, set, replicate}
-use lib.Bits.{bitOr, bitXor}
+use mathlib.Core.Path.{_≡_}
+use Prim.Native.Nat.{ℕ}
 use lib.Count.{ones, onesIn, trailingZeros}
-use lib.Dec.{ltb}
 use Rattle.base.specs.Pick.{pick}
 use Rattle.marks.specs.Marks.{bit, hasOf, unionOf, withoutOf, oneOf, insertOf, lowestOf}
 use Rattle.board.specs.declared.Link.{Link}
 use Rattle.board.specs.declared.Board.{Board}
 use Rattle.board.specs.Board.{linkAt}
-use Rattle.cone.specs.declared.Sweep.{Sweep}
-use Rattle.cone.specs.declared.Loop.{Loop}
-use Rattle.cone.specs.declared.Loop.the-variants.{At, Free}
+use Rattle.cone.specs.declared.Loop.the-variants.{At}
 use Rattle.cone.specs.Sweeps.{noRows, turnedOf, withLinkOf, rowsUpTo, rowsOf, visitedOf, stepOf, sweepUpTo, reachedOf, coneOf, downstreamOf, upstreamOf, onLoopOf, loopUpTo, loopOf}
 
 abbrev link : ℕ → ℕ → Link

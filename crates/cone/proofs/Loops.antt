@@ -1,30 +1,29 @@
 -- The lowest part on a loop, and that a board without loops has ranks: the number of parts upstream rises along every link.
 -- Assumes nothing.
 use mathlib.Core.Path.{_≡_, refl, sym, ap, _∙_, subst}
-use mathlib.Core.Logic.{_⊎_, inl, inr, ⊎-elim}
+use mathlib.Core.Logic.{⊎-elim}
 use mathlib.Core.Bool.{Bool, true, false}
 use mathlib.Core.List.{List}
-use Prim.Native.Nat.{ℕ, zero, suc, _+_, _-_, _≤_, _<_, _^_, min}
+use Prim.Native.Nat.{ℕ, zero, suc, _+_, _-_, _≤_, _<_, min}
 use native.Mathlib.Omega.{arith}
 use native.Mathlib.Numerals.{add-one}
 use native.Mathlib.Nat.{add-zero, add-suc, le-antisymm}
 use lib.ListN.{getD}
 use lib.Count.{ones}
-use lib.Dec.{eqb}
 use borrow.Author.Tests.{eq-eqb, eqb-true}
 use Rattle.base.specs.Pick.{pick}
-use Rattle.base.proofs.Cases.{lt-or-le, eq-or-ne, finished}
-use Rattle.theory.specs.Graph.{Graph, Ranked}
-use Rattle.marks.specs.Marks.{bit, hasOf}
-use Rattle.marks.proofs.Bits.{bit-lt, bit-or-not}
+use Rattle.base.proofs.Cases.{lt-or-le}
+use Rattle.theory.specs.Graph.{Ranked}
+use Rattle.marks.specs.Marks.{hasOf}
+use Rattle.marks.proofs.Bits.{bit-or-not}
 use Rattle.marks.proofs.Counts.{ones-to, ones-less}
 use Rattle.board.specs.declared.Board.{Board}
 use Rattle.board.specs.Board.{linkAt, Linked, WellFormed, view}
-use Rattle.board.specs.Path.{Path, one, more, Reach, here, by, LoopFree}
+use Rattle.board.specs.Path.{Path, one, more, here, by, LoopFree}
 use Rattle.cone.specs.declared.Loop.{Loop}
 use Rattle.cone.specs.declared.Loop.the-variants.{At, Free}
-use Rattle.cone.specs.Cone.{Upstream, LowestOnLoop, LoopSaid}
-use Rattle.cone.specs.Sweeps.{rowsOf, reachedOf, upstreamOf, onLoopOf, foundElse, loopUpTo, loopOf}
+use Rattle.cone.specs.Cone.{Upstream, LoopSaid}
+use Rattle.cone.specs.Sweeps.{rowsOf, upstreamOf, onLoopOf, foundElse, loopUpTo, loopOf}
 use Rattle.cone.proofs.Marked.{rows-fit, row-linked, linked-row}
 use Rattle.cone.proofs.Sweeping.{Reached, start, step, reached-marked, reached-all}
 use Rattle.cone.proofs.Cones.{path-link, reach-path, path-from, walk, upstream-is}

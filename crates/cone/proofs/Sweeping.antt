@@ -1,19 +1,19 @@
 -- A sweep marks exactly what can be reached. What it holds at every step (`Sound`): what is visited or to be visited can be reached, what was
 -- marked at first is one of these, and so is every part that a visited part's row marks. Each step visits a part more, so 64 steps visit all.
 -- Assumes nothing.
-use mathlib.Core.Path.{_≡_, refl, sym, ap, _∙_}
-use mathlib.Core.Logic.{_≢_, _⊎_, inl, inr, ⊎-elim}
+use mathlib.Core.Path.{_≡_, sym, ap, _∙_}
+use mathlib.Core.Logic.{_⊎_, inl, inr, ⊎-elim}
 use mathlib.Core.List.{List}
 use Prim.Native.Nat.{ℕ, zero, suc, _+_, _-_, _≤_, _<_, _^_, max}
 use native.Mathlib.Omega.{arith}
 use lib.ListN.{getD}
 use lib.Count.{ones}
-use lib.Dec.{ltb, lit<}
+use lib.Dec.{lit<}
 use borrow.Author.Tests.{lt-ltb, le-ltb}
 use Rattle.base.specs.Pick.{pick}
 use Rattle.base.proofs.Cases.{lt-or-le, eq-or-ne}
 use Rattle.marks.specs.Marks.{bit, insertOf, unionOf, withoutOf, lowestOf}
-use Rattle.marks.proofs.Bits.{bit-lt, bit-none, bit-or-not, bit-union, bit-without, insert-same, insert-other, insert-keeps, insert-fits, union-fits, without-fits}
+use Rattle.marks.proofs.Bits.{bit-lt, bit-none, bit-or-not, bit-union, bit-without, insert-same, insert-other, insert-fits, union-fits, without-fits}
 use Rattle.marks.proofs.Counts.{ones-to, ones-insert, lowest-mark, lowest-past}
 use Rattle.cone.specs.declared.Sweep.{Sweep}
 use Rattle.cone.specs.Sweeps.{visitedOf, stepOf, sweepUpTo, reachedOf}

@@ -2,13 +2,13 @@
 -- Assumes nothing.
 use mathlib.Core.Logic.{_≢_, _⊎_, inl, inr, ⊎-elim}
 use mathlib.Core.Path.{_≡_, refl, sym, ap, _∙_}
-use Prim.Native.Nat.{ℕ, zero, suc, _+_, _-_, _*_, _/_, _%_, _^_, _≤_, _<_, max}
+use Prim.Native.Nat.{ℕ, zero, suc, _-_, _/_, _%_, _^_, _≤_, _<_, max}
 use native.Mathlib.Omega.{arith}
 use native.Mathlib.Nat.{pow-suc, div-one}
 use native.Mathlib.Numerals.{one-add}
 use lib.Pow.{shr-shr, pow-lt}
 use lib.Bits.{bitOr, bitXor, differ, or-shr, or-step, or-lt, xor-shr, xor-step, xor-lt}
-use lib.Dec.{ltb, lit<}
+use lib.Dec.{lit<}
 use borrow.Author.Tests.{lt-ltb, le-ltb}
 use Rattle.base.specs.Pick.{pick}
 use Rattle.base.proofs.Cases.{lt-or-le, eq-or-ne}

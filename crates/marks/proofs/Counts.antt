@@ -1,12 +1,11 @@
 -- How many marks a set has, and its lowest mark.
 -- Assumes nothing.
-use mathlib.Core.Logic.{_⊎_, inl, inr, ⊎-elim}
-use mathlib.Core.Path.{_≡_, refl, sym, ap, _∙_}
-use Prim.Native.Nat.{ℕ, zero, suc, _+_, _-_, _*_, _/_, _%_, _^_, _≤_, _<_, max}
+use mathlib.Core.Logic.{⊎-elim}
+use mathlib.Core.Path.{_≡_, refl, _∙_}
+use Prim.Native.Nat.{ℕ, zero, suc, _/_, _%_, _^_, _≤_, _<_}
 use native.Mathlib.Omega.{arith}
-use native.Mathlib.Nat.{pow-suc, le-of-eq}
+use native.Mathlib.Nat.{pow-suc}
 use lib.Count.{ones, ones-step, ones-le, trailingZeros, under}
-use lib.Dec.{ltb, lit<}
 use Rattle.base.proofs.Cases.{eq-or-ne}
 use Rattle.marks.specs.Marks.{bit, insertOf, lowestOf}
 use Rattle.marks.proofs.Bits.{bit-zero, bit-suc, mark-below, insert-same, insert-other}

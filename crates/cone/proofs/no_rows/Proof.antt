@@ -1,7 +1,6 @@
 -- `no_rows` meets its contract.
 -- Assumes nothing.
 use Rattle.cone.proofs.Ways.{none-marked}
-use borrow.Author.Needs.{needs}
 use Rattle.cone.proofs.no_rows.Statement.{statement}
 use Rattle.cone.proofs.no_rows.Tie as tie
 

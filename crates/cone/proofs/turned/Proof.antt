@@ -1,7 +1,6 @@
 -- `turned` meets its contract.
 -- Assumes nothing.
 use Rattle.cone.proofs.Ways.{turned-back, turned-not}
-use borrow.Author.Needs.{needs}
 use Rattle.cone.proofs.turned.Statement.{statement}
 use Rattle.cone.proofs.turned.Tie as tie
 

@@ -1,7 +1,6 @@
 -- `lowest` meets its contract.
 -- Assumes nothing.
 use Rattle.marks.proofs.Ways.{low, low-fits}
-use borrow.Author.Needs.{needs}
 use Rattle.marks.proofs.lowest.Statement.{statement}
 use Rattle.marks.proofs.lowest.Tie as tie
 

@@ -1,7 +1,6 @@
 -- `union` meets its contract.
 -- Assumes nothing.
 use Rattle.marks.proofs.Ways.{joined}
-use borrow.Author.Needs.{needs}
 use Rattle.marks.proofs.union.Statement.{statement}
 use Rattle.marks.proofs.union.Tie as tie
 

@@ -1,7 +1,6 @@
 -- `without` meets its contract.
 -- Assumes nothing.
 use Rattle.marks.proofs.Ways.{cut}
-use borrow.Author.Needs.{needs}
 use Rattle.marks.proofs.without.Statement.{statement}
 use Rattle.marks.proofs.without.Tie as tie
 
