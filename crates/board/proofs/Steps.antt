@@ -1,4 +1,4 @@
--- The ways through the functions, and a test of all numbers below n.
+-- The ways through the functions, and a test of every numbers below n.
 -- Assumes nothing.
 use mathlib.Core.Path.{_≡_, refl, ap}
 use mathlib.Core.List.{List}
@@ -15,18 +15,18 @@ use Rattle.curve.specs.declared.Curve.{Curve}
 use Rattle.board.specs.declared.Link.{Link}
 use Rattle.board.specs.declared.Board.{Board}
 use Rattle.board.specs.Board.{blankCurve, linkAt}
-use Rattle.board.specs.Test.{both, all, blankCurves, blankLinks, emptyOf, belowOf, linkHeld}
+use Rattle.board.specs.Test.{both, every, blankCurves, blankLinks, emptyOf, belowOf, linkHeld}
 
-pub none-tested : (test : ℕ → Bool) → true ≡ all 0 test
-unfolding all
+pub none-tested : (test : ℕ → Bool) → true ≡ every 0 test
+unfolding every
 none-tested test = refl
 
-pub one-more : (test : ℕ → Bool) (k : ℕ) (good one next : Bool) → good ≡ all k test → one ≡ test k → next ≡ both good one → next ≡ all (k + 1) test
-unfolding all
+pub one-more : (test : ℕ → Bool) (k : ℕ) (good one next : Bool) → good ≡ every k test → one ≡ test k → next ≡ both good one → next ≡ every (k + 1) test
+unfolding every
 one-more test k good one next is new so = rw (add-one, ← is, ← new) so
 
-pub all-tested : (test : ℕ → Bool) (k n : ℕ) (good : Bool) → good ≡ all k test → k ≤ n → n ≤ k → good ≡ all n test
-all-tested test k n good is l h = finished (λ m. all m test) l h is
+pub all-tested : (test : ℕ → Bool) (k n : ℕ) (good : Bool) → good ≡ every k test → k ≤ n → n ≤ k → good ≡ every n test
+all-tested test k n good is l h = finished (λ m. every m test) l h is
 
 pub all-blank : (c : Curve) → c ≡ blankCurve → replicate 64 c ≡ blankCurves
 unfolding blankCurves

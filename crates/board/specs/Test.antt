@@ -32,24 +32,24 @@ emptyOf deadline parts = record { deadline = deadline; parts = parts; curve = bl
 unfoldable pub belowOf : Link → Link → ℕ
 belowOf a x =
     pick (ltb (a .from) (x .from)) 1 (
-      pick (ltb (x .from) (a .from)) 0 (
-        pick (ltb (a .to) (x .to)) 1 0))
+    pick (ltb (x .from) (a .from)) 0 (
+    pick (ltb (a .to) (x .to)) 1 0))
 
--- both tests hold; a test holds of every number below n
-unfoldable pub both : Bool → Bool → Bool
-both one other = pick one other false
+abbrev pub both : Bool → Bool → Bool
+both a b = pick a b false
 
-unfoldable pub all : ℕ → (ℕ → Bool) → Bool
-all zero test = true
-all (suc n) test = both (all n test) (test n)
+-- a test passes at each number below n
+unfoldable pub every : ℕ → (ℕ → Bool) → Bool
+every zero p = true
+every (suc n) p = both (every n p) (p n)
 
 -- link l joins two parts and stands above the one before it
 unfoldable pub linkHeld : Board → ℕ → Bool
 linkHeld b l =
     pick (leb (b .parts) (linkAt b l .from)) false (
-      pick (leb (b .parts) (linkAt b l .to)) false (
-        pick (eqb (linkAt b l .from) (linkAt b l .to)) false (
-          pick (eqb l 0) true (eqb (belowOf (linkAt b (l - 1)) (linkAt b l)) 1))))
+    pick (leb (b .parts) (linkAt b l .to)) false (
+    pick (eqb (linkAt b l .from) (linkAt b l .to)) false (
+    pick (eqb l 0) true (eqb (belowOf (linkAt b (l - 1)) (linkAt b l)) 1))))
 
 unfoldable pub linkBlank : Link → Bool
 linkBlank x = pick (ltb 0 (x .from)) false (eqb (x .to) 0)
@@ -58,4 +58,4 @@ unfoldable pub linkTest : Board → ℕ → Bool
 linkTest b l = pick (ltb l (b .links)) (linkHeld b l) (linkBlank (linkAt b l))
 
 unfoldable pub linksTest : Board → Bool
-linksTest b = all 256 (linkTest b)
+linksTest b = every 256 (linkTest b)

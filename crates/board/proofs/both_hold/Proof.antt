@@ -1,4 +1,3 @@
-use Rattle.board.specs.Test.{both}
 use Rattle.base.specs.Pick.{pick}
 use borrow.Author.Needs.{needs}
 use Rattle.board.proofs.both_hold.Statement.{statement}
@@ -8,12 +7,12 @@ use Rattle.board.proofs.both_hold.Lts as lts
 
 -- src/lib.rt:85:9
 returns : tie.Need-returns
-unfolding both pick
+unfolding pick
 returns c = search needs
 
 -- src/lib.rt:81:1
 returns-2 : tie.Need-returns-2
-unfolding both pick
+unfolding pick
 returns-2 c = search needs
 
 pub both-hold-spec : {M : Type 1} → statement M

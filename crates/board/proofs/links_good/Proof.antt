@@ -1,6 +1,6 @@
 use mathlib.Core.Path.{_≡_}
 use Prim.Native.Nat.{_≤_, _-_}
-use Rattle.board.specs.Test.{all, linkTest, linksTest}
+use Rattle.board.specs.Test.{every, linkTest, linksTest}
 use Rattle.board.proofs.Steps.{none-tested, one-more, all-tested}
 use borrow.Author.Needs.{needs}
 use Rattle.board.proofs.links_good.Statement.{statement}
@@ -11,7 +11,7 @@ use Rattle.board.proofs.both_hold.Reads as both-hold-reads
 use Rattle.board.proofs.link_good.Reads as link-good-reads
 
 abbrev Inv-loop : tie.InvT-loop
-Inv-loop b good₀ l₀ good l = (l ≤ 256) × (good ≡ all l (linkTest b))
+Inv-loop b good₀ l₀ good l = (l ≤ 256) × (good ≡ every l (linkTest b))
 
 abbrev μ-loop : tie.MeasureT-loop
 μ-loop b good₀ l₀ good l = 256 - l
