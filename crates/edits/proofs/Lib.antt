@@ -1,3 +1,5 @@
 pub mod Ways
 pub mod Places
 pub mod LinkEdits
+pub mod PlainEdits
+pub mod Commute

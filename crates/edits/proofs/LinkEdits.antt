@@ -60,8 +60,8 @@ module _ (b : Board) (w : WellFormed b) (from to : ℕ) (may : Addable b from to
   strict : at < b .links → order x < orders b at
   strict h = ⊎-elim
       (λ (e : order x ≡ orders b at).
-        let same : linkAt b at ≡ x = order-same (linkAt b at) x (to-below b w at h) small (sym e) in
-        absurd (may .missing (record { link = at; here = h; from = ap (λ (l : Link). l .from) same; to = ap (λ (l : Link). l .to) same })))
+      let same : linkAt b at ≡ x = order-same (linkAt b at) x (to-below b w at h) small (sym e) in
+      absurd (may .missing (record { link = at; here = h; from = ap (λ (l : Link). l .from) same; to = ap (λ (l : Link). l .to) same })))
       (λ (e : order x ≡ orders b at → ⊥). omega (arith, parts-at .above at (omega arith) h))
       (eq-or-ne (order x) (orders b at))
 
@@ -69,12 +69,12 @@ module _ (b : Board) (w : WellFormed b) (from to : ℕ) (may : Addable b from to
   ascends l h = ⊎-elim
       (λ (s : suc l < at). rw (below l (omega arith), below (suc l) s) (w .ascends l (omega (arith, parts-at .under))))
       (λ (s : at ≤ suc l). ⊎-elim
-        (λ (t : at < suc l). rw (above l (omega (arith, may .room)) (omega arith)) (⊎-elim
-          (λ (e : at ≡ l). subst (λ (k : ℕ). order (linkAt after k) < orders b k) e (rw here (strict (omega arith))))
-          (λ (e : at ≡ l → ⊥). later l h (omega arith))
-          (eq-or-ne at l)))
-        (λ (t : suc l ≤ at). let e : at ≡ suc l = omega arith in rw (below l (omega arith)) (subst (λ (k : ℕ). orders b l < order (linkAt after k)) e (rw here (parts-at .below l (omega arith)))))
-        (lt-or-le at (suc l)))
+      (λ (t : at < suc l). rw (above l (omega (arith, may .room)) (omega arith)) (⊎-elim
+      (λ (e : at ≡ l). subst (λ (k : ℕ). order (linkAt after k) < orders b k) e (rw here (strict (omega arith))))
+      (λ (e : at ≡ l → ⊥). later l h (omega arith))
+      (eq-or-ne at l)))
+      (λ (t : suc l ≤ at). let e : at ≡ suc l = omega arith in rw (below l (omega arith)) (subst (λ (k : ℕ). orders b l < order (linkAt after k)) e (rw here (parts-at .below l (omega arith)))))
+      (lt-or-le at (suc l)))
       (lt-or-le (suc l) at)
     where
       later : (l : ℕ) → suc l < b .links + 1 → at < l → order (linkAt after l) < orders b l
@@ -107,8 +107,8 @@ module _ (b : Board) (w : WellFormed b) (from to : ℕ) (may : Addable b from to
   after-kept p q k = ⊎-elim
       (λ (s : k .link < at). let e = below (k .link) s in record { link = k .link; here = omega (arith, k .here); from = rw e (k .from); to = rw e (k .to) })
       (λ (s : at ≤ k .link).
-        let e = above (k .link) (omega (arith, k .here, may .room)) s in
-        record { link = suc (k .link); here = omega (arith, k .here); from = rw e (k .from); to = rw e (k .to) })
+      let e = above (k .link) (omega (arith, k .here, may .room)) s in
+      record { link = suc (k .link); here = omega (arith, k .here); from = rw e (k .from); to = rw e (k .to) })
       (lt-or-le (k .link) at)
 
   after-only : (p q : ℕ) → Linked after p q → Linked b p q ⊎ Ends p q from to
@@ -174,9 +174,9 @@ module _ (b : Board) (w : WellFormed b) (from to : ℕ) (there : Linked b from t
   left-ascends l h = ⊎-elim
       (λ (s : suc l < out). rw (before l (omega arith), before (suc l) s) (w .ascends l (omega arith)))
       (λ (s : out ≤ suc l). rw (beyond (suc l) (omega (arith, w .links-to)) s) (⊎-elim
-        (λ (t : l < out). rw (before l t) (rises (b .links) (orders b) (w .ascends) l (suc (suc l)) (omega arith) (omega arith)))
-        (λ (t : out ≤ l). rw (beyond l (omega (arith, w .links-to)) t) (w .ascends (suc l) (omega arith)))
-        (lt-or-le l out)))
+      (λ (t : l < out). rw (before l t) (rises (b .links) (orders b) (w .ascends) l (suc (suc l)) (omega arith) (omega arith)))
+      (λ (t : out ≤ l). rw (beyond l (omega (arith, w .links-to)) t) (w .ascends (suc l) (omega arith)))
+      (lt-or-le l out)))
       (lt-or-le (suc l) out)
 
   left-blank : (l : ℕ) → b .links - 1 ≤ l → l < 256 → linkAt left l ≡ noLink
@@ -224,6 +224,7 @@ module _ (b : Board) (w : WellFormed b) (from to : ℕ) (there : Linked b from t
     where
       same : (l : ℕ) → l ≡ there .link → linkAt b l .from ≡ p → linkAt b l .to ≡ q → Ends p q from to
       same l e f t = record { starts = sym f ∙ rw e (there .from); ends = sym t ∙ rw e (there .to) }
+
       later : (l : ℕ) → l < b .links → linkAt b l .from ≡ p → linkAt b l .to ≡ q → out ≤ l → Linked left p q
       later zero h f t s = absurd (ne (same zero (omega (arith, out-is)) f t))
       later (suc l) h f t s = ⊎-elim

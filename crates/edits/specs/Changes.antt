@@ -3,8 +3,11 @@
 use mathlib.Core.Path.{_≡_}
 use mathlib.Core.Logic.{_⊎_, _≢_}
 use Prim.Native.Nat.{ℕ, _+_, _<_}
+use lib.ListN.{getD}
+use Rattle.curve.specs.declared.Ticks.{Ticks}
+use Rattle.curve.specs.declared.Curve.{Curve}
 use Rattle.board.specs.declared.Board.{Board}
-use Rattle.board.specs.Board.{Linked}
+use Rattle.board.specs.Board.{Linked, curveAt, noCurve}
 
 -- two links with the same ends
 pub record Ends (p q from to : ℕ) : Type 0 where
@@ -40,3 +43,20 @@ pub record LinkRemoved (b b′ : Board) (from to : ℕ) : Type 0 where
   pub gone : Linked b′ from to → ⊥
   pub kept : (p q : ℕ) → Linked b p q → (Ends p q from to → ⊥) → Linked b′ p q
   pub only : (p q : ℕ) → Linked b′ p q → Linked b p q
+
+-- the curve of part p alone is another
+pub record CurveChanged (b b′ : Board) (p : ℕ) (c : Curve) : Type 0 where
+  pub deadline : b′ .deadline ≡ b .deadline
+  pub parts : b′ .parts ≡ b .parts
+  pub here : curveAt b′ p ≡ c
+  pub elsewhere : (q : ℕ) → q ≢ p → curveAt b′ q ≡ curveAt b q
+  pub links : b′ .links ≡ b .links
+  pub link : b′ .link ≡ b .link
+
+-- the deadline alone is another
+pub record DeadlineChanged (b b′ : Board) (d : Ticks) : Type 0 where
+  pub deadline : b′ .deadline ≡ d
+  pub parts : b′ .parts ≡ b .parts
+  pub curve : b′ .curve ≡ b .curve
+  pub links : b′ .links ≡ b .links
+  pub link : b′ .link ≡ b .link
