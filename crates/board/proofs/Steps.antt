@@ -10,12 +10,14 @@ use lib.Dec.{eqb}
 use borrow.Author.Tests.{lt-leb, ne-eqb}
 use Rattle.base.specs.Pick.{pick}
 use Rattle.base.proofs.Cases.{finished}
+use Rattle.curve.specs.Answers.{flatOf}
+use Rattle.curve.specs.Tests.{both, every}
 use Rattle.curve.specs.declared.Ticks.{Ticks}
 use Rattle.curve.specs.declared.Curve.{Curve}
 use Rattle.board.specs.declared.Link.{Link}
 use Rattle.board.specs.declared.Board.{Board}
 use Rattle.board.specs.Board.{blankCurve, linkAt}
-use Rattle.board.specs.Test.{both, every, blankCurves, blankLinks, emptyOf, belowOf, linkHeld}
+use Rattle.board.specs.Tests.{blankCurves, blankLinks, emptyOf, belowOf, linkHeld}
 
 pub none-tested : (test : ℕ → Bool) → true ≡ every 0 test
 unfolding every
@@ -42,3 +44,7 @@ pub in-order : (b : Board) (l r : ℕ) → linkAt b l .from < b .parts → linkA
     → r ≡ belowOf (linkAt b (l - 1)) (linkAt b l) → eqb r 1 ≡ linkHeld b l
 unfolding linkHeld pick
 in-order b l r from to apart later is = rw (lt-leb _ _ from, lt-leb _ _ to, ne-eqb _ _ apart, ne-eqb _ _ later, is)
+
+pub flat-blank : (c : Curve) → c ≡ flatOf (record { 0 = 0 }) (record { 0 = 0 }) → c ≡ blankCurve
+unfolding flatOf blankCurve
+flat-blank c is = is

@@ -20,7 +20,7 @@ use Rattle.curve.specs.declared.Curve.{Curve}
 use Rattle.board.specs.declared.Link.{Link}
 use Rattle.board.specs.declared.Board.{Board}
 use Rattle.board.specs.Board.{linkAt, noLink}
-use Rattle.board.specs.Test.{belowOf}
+use Rattle.board.specs.Tests.{belowOf}
 use Rattle.board.proofs.LinkLaws.{clash}
 use Rattle.edits.specs.Edits.{linkOf, countBefore, placeOf, hasLinkOf, filled, insertedAt, insertedOf, removedAt, removedOf, addable, withCurveOf, withLinkOf, withoutLinkOf}
 
