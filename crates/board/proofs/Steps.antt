@@ -1,11 +1,11 @@
 -- The ways through the functions, and a test of every numbers below n.
 -- Assumes nothing.
-use mathlib.Core.Path.{_≡_, refl, ap}
-use mathlib.Core.List.{List}
+use mathlib.Core.Path.{_≡_, refl, sym, ap, _∙_}
+use mathlib.Core.List.{List, map}
 use mathlib.Core.Bool.{Bool, true, false}
 use Prim.Native.Nat.{ℕ, zero, suc, _+_, _-_, _≤_, _<_}
 use native.Mathlib.Numerals.{add-one}
-use lib.ListN.{replicate, getD}
+use lib.ListN.{length, replicate, getD, length-map}
 use lib.Dec.{eqb}
 use borrow.Author.Tests.{lt-leb, ne-eqb}
 use Rattle.base.specs.Pick.{pick}
@@ -48,3 +48,7 @@ in-order b l r from to apart later is = rw (lt-leb _ _ from, lt-leb _ _ to, ne-e
 pub flat-blank : (c : Curve) → c ≡ flatOf (record { 0 = 0 }) (record { 0 = 0 }) → c ≡ blankCurve
 unfolding flatOf blankCurve
 flat-blank c is = is
+
+-- an array of structs is as long as what stands in memory for it
+pub length-mapped : (X Y : Type 0) (f : X → Y) (l : List X) (n : ℕ) → length (map f l) ≡ n → length l ≡ n
+length-mapped X Y f l n e = sym (length-map l f) ∙ e
