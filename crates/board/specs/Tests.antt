@@ -60,8 +60,8 @@ quickened c = record { fastest = record { 0 = 1 }; power = c .power; count = c .
 unfoldable pub curveBlank : Curve → Bool
 curveBlank c =
     pick (ltb 0 (c .fastest .0)) false (
-      pick (ltb 0 (c .power .0)) false (
-        pick (ltb 0 (c .count)) false (goodb (quickened c))))
+    pick (ltb 0 (c .power .0)) false (
+    pick (ltb 0 (c .count)) false (goodb (quickened c))))
 
 unfoldable pub curveTest : Board → ℕ → Bool
 curveTest b p = pick (ltb p (b .parts)) (goodb (curveAt b p)) (curveBlank (curveAt b p))

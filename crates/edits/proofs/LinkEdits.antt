@@ -12,7 +12,7 @@ use Rattle.board.specs.declared.Link.{Link}
 use Rattle.board.specs.declared.Board.{Board}
 use Rattle.board.specs.Board.{WellFormed, Linked, linkAt, noLink, order}
 use Rattle.board.proofs.LinkLaws.{order-same}
-use Rattle.board.proofs.Ascending.{Parted, rises}
+use Rattle.board.proofs.Ascending.{Parted, rises, rises-le}
 use Rattle.board.proofs.SameBoard.{orders, to-below}
 use Rattle.edits.specs.Edits.{linkOf, placeOf, insertedOf, removedOf, withLinkOf, withoutLinkOf}
 use Rattle.edits.specs.Changes.{Ends, Addable, LinksOnly, LinkAdded, LinkRemoved}
@@ -136,6 +136,32 @@ module _ (b : Board) (w : WellFormed b) (from to : ℕ) (may : Addable b from to
 
   pub with-link-added : LinkAdded b (withLinkOf b from to) from to
   with-link-added = subst (λ (c : Board). LinkAdded b c from to) is-after after-added
+
+-- ---- a link above all others comes last
+module _ (b : Board) (w : WellFormed b) (from to : ℕ) (top : (l : ℕ) → l < b .links → orders b l < order (linkOf from to)) where
+  pub top-missing : Linked b from to → ⊥
+  top-missing k = omega (arith, top (k .link) (k .here), k .from, k .to)
+
+  module _ (may : Addable b from to) where
+    last : placeOf b (linkOf from to) ≡ b .links
+    last =
+        let p = parts-at b w from to may in
+        ⊎-elim
+        (λ (h : placeOf b (linkOf from to) < b .links). absurd (omega (arith, p .above (placeOf b (linkOf from to)) (omega arith) h, top (placeOf b (linkOf from to)) h)))
+        (λ (h : b .links ≤ placeOf b (linkOf from to)). omega (arith, p .under))
+        (lt-or-le (placeOf b (linkOf from to)) (b .links))
+
+    pub top-kept : (l : ℕ) → l < b .links → linkAt (withLinkOf b from to) l ≡ linkAt b l
+    top-kept l h = subst (λ (c : Board). linkAt c l ≡ linkAt b l) (is-after b w from to may) (below b w from to may l (omega (arith, last)))
+
+    pub top-last : linkAt (withLinkOf b from to) (b .links) ≡ linkOf from to
+    top-last =
+        subst (λ (c : Board). linkAt c (b .links) ≡ linkOf from to) (is-after b w from to may)
+        (subst (λ (k : ℕ). linkAt (after b w from to may) k ≡ linkOf from to) last (here b w from to may))
+
+-- what stands above the last link stands above all
+pub above-last : (b : Board) → WellFormed b → (m v : ℕ) → b .links ≡ suc m → orders b m < v → (l : ℕ) → l < b .links → orders b l < v
+above-last b w m v e h l s = omega (arith, rises-le (b .links) (orders b) (w .ascends) l m (omega arith) (omega arith))
 
 -- ---- a link less
 module _ (b : Board) (w : WellFormed b) (from to : ℕ) (there : Linked b from to) where

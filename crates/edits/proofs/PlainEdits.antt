@@ -41,21 +41,31 @@ pub with-deadline-changed : (b : Board) (d : Ticks) → DeadlineChanged b (withD
 unfolding withDeadlineOf
 with-deadline-changed b d = record { deadline = refl; parts = refl; curve = refl; links = refl; link = refl }
 
+-- ---- a curve at its place
+module _ (b : Board) (p : ℕ) (c : Curve) (part : p < b .parts) (few : b .parts ≤ 64) (long : length (b .curve) ≡ 64) where
+  pub curve-here : curveAt (withCurveOf b p c) p ≡ c
+  unfolding withCurveOf pick
+  curve-here = rw (lt-ltb _ _ part) (getD-set-same (b .curve) p c noCurve (rw long (omega arith)))
+
+  pub curve-elsewhere : (q : ℕ) → q ≢ p → curveAt (withCurveOf b p c) q ≡ curveAt b q
+  unfolding withCurveOf pick
+  curve-elsewhere q ne = rw (lt-ltb _ _ part) (getD-set-other (b .curve) p q c noCurve ne)
+
+  pub curve-room : length (withCurveOf b p c .curve) ≡ 64
+  unfolding withCurveOf pick
+  curve-room = rw (lt-ltb _ _ part) (length-set (b .curve) p c ∙ long)
+
 module _ (b : Board) (w : WellFormed b) (p : ℕ) (c : Curve) (part : p < b .parts) where
   pub with-curve-changed : CurveChanged b (withCurveOf b p c) p c
-  unfolding withCurveOf pick
+  unfolding withCurveOf
   with-curve-changed = record {
     deadline = refl;
     parts = refl;
-    here = rw (lt-ltb _ _ part) (getD-set-same (b .curve) p c noCurve (rw (w .curve-room) (omega (arith, w .parts-to))));
-    elsewhere = λ q ne. rw (lt-ltb _ _ part) (getD-set-other (b .curve) p q c noCurve ne);
+    here = curve-here b p c part (w .parts-to) (w .curve-room);
+    elsewhere = curve-elsewhere b p c part (w .parts-to) (w .curve-room);
     links = refl;
     link = refl;
   }
-
-  curves-room : length (withCurveOf b p c .curve) ≡ 64
-  unfolding withCurveOf pick
-  curves-room = rw (lt-ltb _ _ part) (length-set (b .curve) p c ∙ w .curve-room)
 
   each-curve : Good c → (q : ℕ) → q < b .parts → Good (curveAt (withCurveOf b p c) q)
   each-curve good q h = ⊎-elim
@@ -78,6 +88,6 @@ module _ (b : Board) (w : WellFormed b) (p : ℕ) (c : Curve) (part : p < b .par
     ascends = w .ascends;
     blank-curves = λ q h r. with-curve-changed .elsewhere q (λ e. omega arith) ∙ w .blank-curves q h r;
     blank-links = w .blank-links;
-    curve-room = curves-room;
+    curve-room = curve-room b p c part (w .parts-to) (w .curve-room);
     link-room = w .link-room;
   }
