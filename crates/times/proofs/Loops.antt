@@ -6,6 +6,7 @@ use mathlib.Core.List.{List}
 use Prim.Native.Nat.{ℕ, zero, suc, max, _+_, _*_, _≤_, _<_}
 use native.Mathlib.Omega.{arith}
 use native.Mathlib.Numerals.{add-one}
+use native.Mathlib.Nat.{mul-le-mul-left}
 use lib.ListN.{length, getD, set}
 use lib.Seq.{ext-getD}
 use mir.Syntax.{w64, w32}
@@ -26,8 +27,9 @@ pub wire-to : (l : Link) → wireOf l ≤ 255
 unfolding wireOf
 wire-to l = omega arith
 
-pub scaled : (i : ℕ) → i < 64 → Fits w64 (i * 4)
-scaled i h = omega arith
+-- an index of 64 places, scaled by the width of an element
+pub scaled : (w i : ℕ) → w ≤ 16 → i < 64 → Fits w64 (i * w)
+scaled w i narrow h = omega (arith, mul-le-mul-left i narrow)
 
 -- ---- starts
 module _ (link : List Link) (n : ℕ) (e : List ℕ) (ok : Joined link n e) (k : ℕ) (h : k < n) where

@@ -35,19 +35,19 @@ array-copy-out-l c = search needs
 
 -- src/lib.rt:45:23
 mul-larger : tie.Need-mul-larger Inv-loop μ-loop
-mul-larger c = search (scaled, from-below, to-below)
+mul-larger c = search (scaled, from-below, to-below, needs)
 
 -- src/lib.rt:45:23
 array-read-larger : tie.Need-array-read-larger Inv-loop μ-loop
-array-read-larger c = search (scaled, from-below, to-below)
+array-read-larger c = search (scaled, from-below, to-below, needs)
 
 -- src/lib.rt:45:29
 mul-larger-2 : tie.Need-mul-larger-2 Inv-loop μ-loop
-mul-larger-2 c = search (scaled, from-below, to-below)
+mul-larger-2 c = search (scaled, from-below, to-below, needs)
 
 -- src/lib.rt:45:29
 array-read-larger-2 : tie.Need-array-read-larger-2 Inv-loop μ-loop
-array-read-larger-2 c = search (scaled, from-below, to-below)
+array-read-larger-2 c = search (scaled, from-below, to-below, needs)
 
 -- src/lib.rt:45:36
 wire-requires : tie.Need-wire-requires Inv-loop μ-loop
@@ -63,11 +63,11 @@ larger-requires c κs = search needs
 
 -- src/lib.rt:45:9
 mul-s : tie.Need-mul-s Inv-loop μ-loop
-mul-s c = search (scaled, from-below, to-below)
+mul-s c = search (scaled, from-below, to-below, needs)
 
 -- src/lib.rt:45:9
 array-write-s : tie.Need-array-write-s Inv-loop μ-loop
-array-write-s c = search (scaled, from-below, to-below)
+array-write-s c = search (scaled, from-below, to-below, needs)
 
 -- src/lib.rt:46:13
 add-k : tie.Need-add-k Inv-loop μ-loop
