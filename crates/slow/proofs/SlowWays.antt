@@ -11,11 +11,11 @@ use Rattle.theory.specs.Budget.{Timed}
 use Rattle.board.specs.declared.Board.{Board}
 use Rattle.board.specs.Board.{usable, view}
 use Rattle.times.specs.declared.Schedule.{Schedule}
-use Rattle.times.specs.Times.{table, fastestsOf, Joined, Loopless, Timeable, TimesOf}
+use Rattle.times.specs.Times.{table, fastestsOf, Joined, Timeable, TimesOf}
 use Rattle.times.proofs.TimesLaws.{fastest-timeable, fastest-timed, times-joined}
 use Rattle.slow.specs.declared.Trail.{Trail}
 use Rattle.slow.specs.declared.ShownPath.{ShownPath}
-use Rattle.slow.specs.Slow.{LastPart, FastestEnds, shown, inTime, SlowOf, kept, exceeded}
+use Rattle.slow.specs.Slow.{LastPart, Loopless, FastestEnds, shown, inTime, SlowOf, kept, exceeded}
 use Rattle.slow.specs.Walk.{lastOf, backsOf, trailOf, walkOf}
 use Rattle.slow.proofs.Ways.{last-below}
 use Rattle.slow.proofs.Earlier.{earlier-lt}
@@ -23,7 +23,7 @@ use Rattle.slow.proofs.Steps.{last-is}
 use Rattle.slow.proofs.WalkLaws.{walks}
 
 pub timeable : (b : Board) → Loopless b → (d : List ℕ) → d ≡ fastestsOf b → Timeable b d
-timeable b ok d is = fastest-timeable b ok d is
+timeable b ok d is = fastest-timeable b (ok .formed) (ok .ranked) d is
 
 pub last-place : (b : Board) → Loopless b → (e : List ℕ) (last : ℕ) → last ≡ lastOf e (b .parts) → last < 64
 last-place b ok e last is = rw is (last-below e (b .parts) (ok .formed .parts-to))
@@ -33,7 +33,7 @@ module _ (b : Board) (ok : Loopless b) (d : List ℕ) (isd : d ≡ fastestsOf b)
   joined = times-joined b d (timeable b ok d isd) t times
 
   timed : Timed (view b) (view b .fastest) (cells (t .start)) (cells (t .end))
-  timed = fastest-timed b ok d isd t times
+  timed = fastest-timed b (ok .formed) d isd t times
 
   ends : FastestEnds b (cells (t .end))
   ends = record { start = cells (t .start); timed = timed }

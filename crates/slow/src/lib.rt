@@ -10,8 +10,8 @@ ghost use mathlib.Core.List.{[]};
 ghost use lib.Dec.{eqb, ltb};
 ghost use Rattle.base.specs.Pick.{pick};
 ghost use Rattle.board.specs.Board.{usable};
-ghost use Rattle.times.specs.Times.{table, Joined, Loopless};
-ghost use Rattle.slow.specs.Slow.{SlowOf};
+ghost use Rattle.times.specs.Times.{table, Joined};
+ghost use Rattle.slow.specs.Slow.{Loopless, SlowOf};
 ghost use Rattle.slow.specs.Walk.{lastOf, backsOf, pushedOf, walkOf, trailOf};
 
 // Whether a path is too slow; then its ticks and its parts from first to last, the first `count` of `path`. The rest is 0.

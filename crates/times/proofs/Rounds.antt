@@ -84,8 +84,8 @@ module _ (b : Board) (delay : List ℕ) (ok : Timeable b delay) where
   after-at : (i p : ℕ) → p < b .parts → cells (ends-after (suc i)) p ≡ arrive (view b) (cells (ends-after i)) p + cells delay p
   unfolding roundOf
   after-at i p h =
-      ends-at (startsOf (b .link) (b .links) (ends-after i)) delay (b .parts) (ok .loopless .formed .parts-to) p h
-      ∙ ap (λ v. v + cells delay p) (starts-at b (ok .loopless .formed) (ends-after i) p h)
+      ends-at (startsOf (b .link) (b .links) (ends-after i)) delay (b .parts) (ok .formed .parts-to) p h
+      ∙ ap (λ v. v + cells delay p) (starts-at b (ok .formed) (ends-after i) p h)
 
   none-at : (p : ℕ) → cells (ends-after 0) p ≡ 0
   unfolding roundOf
@@ -115,16 +115,16 @@ module _ (b : Board) (delay : List ℕ) (ok : Timeable b delay) where
   module _ (e : List ℕ) (k : ℕ) (is : e ≡ ends-after k) (h : k ≤ 65) where
     pub joined : Joined (b .link) (b .links) e
     joined = record {
-      links-to = ok .loopless .formed .links-to;
-      from-in = λ l i. omega (arith, ok .loopless .formed .from-in l i, ok .loopless .formed .parts-to);
-      to-in = λ l i. omega (arith, ok .loopless .formed .to-in l i, ok .loopless .formed .parts-to);
+      links-to = ok .formed .links-to;
+      from-in = λ l i. omega (arith, ok .formed .from-in l i, ok .formed .parts-to);
+      to-in = λ l i. omega (arith, ok .formed .to-in l i, ok .formed .parts-to);
       ends-to = λ p i. rw is (omega (arith, after-to k p));
     }
 
     pub summed : (s : List ℕ) → s ≡ startsOf (b .link) (b .links) e → Summed s delay (b .parts)
     summed s starts = record {
-      parts-to = ok .loopless .formed .parts-to;
-      starts-to = λ p i. rw (starts, is) (omega (arith, starts-at b (ok .loopless .formed) (ends-after k) p i, arrive-to (cells (ends-after k)) (2298 * k) (after-to k) p));
+      parts-to = ok .formed .parts-to;
+      starts-to = λ p i. rw (starts, is) (omega (arith, starts-at b (ok .formed) (ends-after k) p i, arrive-to (cells (ends-after k)) (2298 * k) (after-to k) p));
       delays-to = ok .delays-to;
     }
 
@@ -134,12 +134,12 @@ module _ (b : Board) (delay : List ℕ) (ok : Timeable b delay) where
   unfolding view
   timed s e is sums blank room = rw is (record {
     timed = record {
-      starts = starts-at b (ok .loopless .formed) e;
-      ends = λ p h. sums p h ∙ ap (λ v. v + cells delay p) (sym (starts-at b (ok .loopless .formed) e p h));
+      starts = starts-at b (ok .formed) e;
+      ends = λ p h. sums p h ∙ ap (λ v. v + cells delay p) (sym (starts-at b (ok .formed) e p h));
     };
-    start-blank = starts-past b (ok .loopless .formed) e;
+    start-blank = starts-past b (ok .formed) e;
     end-blank = blank;
-    start-room = starts-room b (ok .loopless .formed) e;
+    start-room = starts-room b (ok .formed) e;
     end-room = room;
   })
 
@@ -151,13 +151,13 @@ module _ (b : Board) (delay : List ℕ) (ok : Timeable b delay) where
       let starts : s ≡ startsOf (b .link) (b .links) f = rw still is₀ in
       timed s f starts
       (λ p h.
-      let start : cells s p ≡ arrive (view b) (cells f) p = rw starts (starts-at b (ok .loopless .formed) f p h) in
-      let end : cells f p ≡ cells s p + cells delay p = rw is₁ (ends-at s delay (b .parts) (ok .loopless .formed .parts-to) p h) in
+      let start : cells s p ≡ arrive (view b) (cells f) p = rw starts (starts-at b (ok .formed) f p h) in
+      let end : cells f p ≡ cells s p + cells delay p = rw is₁ (ends-at s delay (b .parts) (ok .formed .parts-to) p h) in
       omega arith)
       (λ p h. rw is₁ (ends-past s delay (b .parts) p h))
       (rw is₁ (ends-room s delay (b .parts)))
 
-  after-settles : (i p : ℕ) → p < b .parts → ok .loopless .ranked .rank p < i → cells (ends-after (suc i)) p ≡ cells (ends-after i) p
+  after-settles : (i p : ℕ) → p < b .parts → ok .ranked .rank p < i → cells (ends-after (suc i)) p ≡ cells (ends-after i) p
   unfolding view
   after-settles zero p h l = absurd (omega arith)
   after-settles (suc i) p h l =
@@ -165,8 +165,8 @@ module _ (b : Board) (delay : List ℕ) (ok : Timeable b delay) where
       ∙ ap (λ v. v + cells delay p)
       (arrive-ext (view b) (cells (ends-after (suc i))) (cells (ends-after i)) p
       (λ k m q.
-      after-settles i (linkAt b k .from) (ok .loopless .formed .from-in k m)
-      (omega (arith, ok .loopless .ranked .rises k m, ap (ok .loopless .ranked .rank) q))))
+      after-settles i (linkAt b k .from) (ok .formed .from-in k m)
+      (omega (arith, ok .ranked .rises k m, ap (ok .ranked .rank) q))))
       ∙ sym (after-at i p h)
 
   -- as many rounds as there are ranks
@@ -177,6 +177,6 @@ module _ (b : Board) (delay : List ℕ) (ok : Timeable b delay) where
       let e65 : e ≡ ends-after 65 = is ∙ ap ends-after all in
       rw e65
       (timed s (ends-after 65) (rw e65 at starts)
-      (λ p i. sym (after-settles 65 p i (ok .loopless .ranked .below p i)) ∙ after-at 65 p i)
+      (λ p i. sym (after-settles 65 p i (ok .ranked .below p i)) ∙ after-at 65 p i)
       (after-past 65)
       (after-room 65))

@@ -9,15 +9,16 @@ use lib.ListN.{length}
 use lib.Seq.{ext-getD}
 use Rattle.base.proofs.Cases.{lt-or-le}
 use Rattle.theory.specs.Sum.{cells}
+use Rattle.theory.specs.Graph.{Ranked}
 use Rattle.theory.specs.Budget.{Timed}
 use Rattle.theory.proofs.ArriveLaws.{arrive-le}
 use Rattle.theory.proofs.TimedLaws.{timed-once}
 use Rattle.curve.specs.Curve.{slowestOf}
 use Rattle.curve.proofs.CurveLaws.{slowest-to}
 use Rattle.board.specs.declared.Board.{Board}
-use Rattle.board.specs.Board.{curveAt, linkAt, view}
+use Rattle.board.specs.Board.{curveAt, linkAt, view, WellFormed}
 use Rattle.times.specs.declared.Schedule.{Schedule}
-use Rattle.times.specs.Times.{fastestsOf, slowestAt, slowestsOf, Joined, Loopless, Timeable, TimesOf}
+use Rattle.times.specs.Times.{fastestsOf, slowestAt, slowestsOf, Joined, Timeable, TimesOf}
 use Rattle.times.proofs.TableLaws.{firsts-at}
 use Rattle.times.proofs.Loops.{wire-at}
 use Rattle.times.proofs.Lawful.{lawful}
@@ -31,14 +32,14 @@ same-places n xs ys lx ly at past past′ =
 pub times-once : (b : Board) (delay : List ℕ) → Timeable b delay → (r r′ : Schedule) → TimesOf b delay r → TimesOf b delay r′ → r ≡ r′
 unfolding view
 times-once b delay ok r r′ t t′ =
-    let once = timed-once (view b) (lawful b (ok .loopless .formed)) (ok .loopless .ranked) (t .timed) (t′ .timed) in
+    let once = timed-once (view b) (lawful b (ok .formed)) (ok .ranked) (t .timed) (t′ .timed) in
     let start = same-places (b .parts) (r .start) (r′ .start) (t .start-room) (t′ .start-room) (λ p h. once p h .0) (t .start-blank) (t′ .start-blank) in
     let end = same-places (b .parts) (r .end) (r′ .end) (t .end-room) (t′ .end-room) (λ p h. once p h .1) (t .end-blank) (t′ .end-blank) in
     ap (λ (s : List ℕ). record { start = s; end = r .end }) start ∙ ap (λ (e : List ℕ). record { start = r′ .start; end = e }) end
 
 -- ---- no end is above 2298 ticks for each rank
 module _ (b : Board) (delay : List ℕ) (ok : Timeable b delay) (r : Schedule) (t : TimesOf b delay r) where
-  end-to : (i p : ℕ) → p < b .parts → ok .loopless .ranked .rank p < i → cells (r .end) p ≤ 2298 * i
+  end-to : (i p : ℕ) → p < b .parts → ok .ranked .rank p < i → cells (r .end) p ≤ 2298 * i
   unfolding view
   end-to zero p h l = absurd (omega arith)
   end-to (suc i) p h l =
@@ -48,7 +49,7 @@ module _ (b : Board) (delay : List ℕ) (ok : Timeable b delay) (r : Schedule) (
       (λ k m q.
       omega (
         arith,
-        end-to i (linkAt b k .from) (ok .loopless .formed .from-in k m) (omega (arith, ok .loopless .ranked .rises k m, ap (ok .loopless .ranked .rank) q)),
+        end-to i (linkAt b k .from) (ok .formed .from-in k m) (omega (arith, ok .ranked .rises k m, ap (ok .ranked .rank) q)),
         wire-at b k,
       ))) in
       omega (arith, t .timed .ends p h, ok .delays-to p h)
@@ -56,29 +57,30 @@ module _ (b : Board) (delay : List ℕ) (ok : Timeable b delay) (r : Schedule) (
   pub times-to : (p : ℕ) → cells (r .end) p ≤ 149370
   unfolding view
   times-to p =
-      ⊎-elim (λ (h : p < b .parts). omega (arith, end-to 65 p h (ok .loopless .ranked .below p h))) (λ (h : b .parts ≤ p). omega (arith, t .end-blank p h))
+      ⊎-elim (λ (h : p < b .parts). omega (arith, end-to 65 p h (ok .ranked .below p h))) (λ (h : b .parts ≤ p). omega (arith, t .end-blank p h))
       (lt-or-le p (b .parts))
 
   -- so further arrivals fit
   pub times-joined : Joined (b .link) (b .links) (r .end)
   times-joined = record {
-    links-to = ok .loopless .formed .links-to;
-    from-in = λ l i. omega (arith, ok .loopless .formed .from-in l i, ok .loopless .formed .parts-to);
-    to-in = λ l i. omega (arith, ok .loopless .formed .to-in l i, ok .loopless .formed .parts-to);
+    links-to = ok .formed .links-to;
+    from-in = λ l i. omega (arith, ok .formed .from-in l i, ok .formed .parts-to);
+    to-in = λ l i. omega (arith, ok .formed .to-in l i, ok .formed .parts-to);
     ends-to = λ p i. omega (arith, times-to p);
   }
 
 -- ---- all at fastest
-module _ (b : Board) (ok : Loopless b) where
+module _ (b : Board) (ok : WellFormed b) where
   pub fastest-at : (p : ℕ) → p < b .parts → cells (fastestsOf b) p ≡ view b .fastest p
   unfolding fastestsOf
-  fastest-at = firsts-at _ (b .parts) (ok .formed .parts-to)
+  fastest-at = firsts-at _ (b .parts) (ok .parts-to)
 
-  pub fastest-timeable : (d : List ℕ) → d ≡ fastestsOf b → Timeable b d
+  pub fastest-timeable : Ranked (view b) 65 → (d : List ℕ) → d ≡ fastestsOf b → Timeable b d
   unfolding view
-  fastest-timeable d is = record {
-    loopless = ok;
-    delays-to = λ p h. rw is (omega (arith, fastest-at p h, ok .formed .curves p h .fastest-to));
+  fastest-timeable ranked d is = record {
+    formed = ok;
+    ranked = ranked;
+    delays-to = λ p h. rw is (omega (arith, fastest-at p h, ok .curves p h .fastest-to));
   }
 
   pub fastest-timed : (d : List ℕ) → d ≡ fastestsOf b → (r : Schedule) → TimesOf b d r → Timed (view b) (view b .fastest) (cells (r .start)) (cells (r .end))
@@ -88,10 +90,11 @@ module _ (b : Board) (ok : Loopless b) where
   -- ---- all at slowest
   pub slowest-at : (p : ℕ) → p < b .parts → cells (slowestsOf b) p ≡ slowestOf (curveAt b p)
   unfolding slowestsOf slowestAt
-  slowest-at = firsts-at _ (b .parts) (ok .formed .parts-to)
+  slowest-at = firsts-at _ (b .parts) (ok .parts-to)
 
-  pub slowest-timeable : (d : List ℕ) → d ≡ slowestsOf b → Timeable b d
-  slowest-timeable d is = record {
-    loopless = ok;
-    delays-to = λ p h. rw is (omega (arith, slowest-at p h, slowest-to (curveAt b p) (ok .formed .curves p h)));
+  pub slowest-timeable : Ranked (view b) 65 → (d : List ℕ) → d ≡ slowestsOf b → Timeable b d
+  slowest-timeable ranked d is = record {
+    formed = ok;
+    ranked = ranked;
+    delays-to = λ p h. rw is (omega (arith, slowest-at p h, slowest-to (curveAt b p) (ok .curves p h)));
   }

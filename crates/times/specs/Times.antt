@@ -70,14 +70,10 @@ pub record Same (a b : List ℕ) (r : Bool) : Type 0 where
   pub alike : r ≡ true → a ≡ b
   pub unlike : r ≡ false → a ≡ b → ⊥
 
--- a board without a loop: parts have ranks that rise along every link
-pub record Loopless (b : Board) : Type 0 where
-  pub formed : WellFormed b
-  pub ranked : Ranked (view b) 65
-
 -- a board without a loop, and delays that its parts can have
 pub record Timeable (b : Board) (delay : List ℕ) : Type 0 where
-  pub loopless : Loopless b
+  pub formed : WellFormed b
+  pub ranked : Ranked (view b) 65
   pub delays-to : (p : ℕ) → p < b .parts → cells delay p ≤ 2043
 
 -- "A part starts at the greatest end among the parts linked to it, or at 0 where there is none; it ends at start plus delay."
