@@ -13,9 +13,8 @@ use Rattle.curve.specs.Curve.{noRun}
 use Rattle.board.specs.declared.Link.{Link}
 use Rattle.board.specs.declared.Board.{Board}
 use Rattle.board.specs.Board.{noLink, blankCurve, usable, view}
-use Rattle.times.specs.Times.{Loopless}
 use Rattle.slow.specs.declared.ShownPath.{ShownPath}
-use Rattle.slow.specs.Slow.{First, LastPart, StepBack, first, next, FastestEnds, shown, SlowOf, exceeded}
+use Rattle.slow.specs.Slow.{First, LastPart, StepBack, first, next, Loopless, FastestEnds, shown, SlowOf, exceeded}
 use Rattle.slow.proofs.SlowLaws.{slow-once}
 
 abbrev run : ℕ → ℕ → Run
