@@ -1,7 +1,7 @@
 -- Paths at their fastest: none takes more ticks than its last part's end, and the walk back finds one that takes as many.
 -- A walk is fixed by the ends of the parts.
 -- Assumes nothing.
-use mathlib.Core.Path.{_≡_, refl, sym, ap, _∙_}
+use mathlib.Core.Path.{_≡_, refl, sym, ap}
 use mathlib.Core.List.{List, [], _∷_, _++_}
 use Prim.Native.Nat.{ℕ, _+_, _≤_, _<_}
 use native.Mathlib.Omega.{arith}

@@ -4,7 +4,7 @@ use mathlib.Core.Path.{_≡_, refl}
 use mathlib.Core.List.{List, [], _∷_}
 use Prim.Native.Nat.{ℕ, zero, suc, _<_}
 use native.Mathlib.Omega.{arith}
-use lib.ListN.{getD, replicate}
+use lib.ListN.{replicate}
 use Rattle.theory.specs.Sum.{share, cells}
 use Rattle.theory.specs.Budget.{greatest, arrive}
 use Rattle.curve.specs.declared.Run.{Run}

@@ -2,14 +2,13 @@
 -- the one shown; and the answer says so exactly where no budget at all is allowed.
 -- Assumes nothing.
 use mathlib.Core.Path.{_≡_, refl, sym, ap, _∙_}
-use mathlib.Core.Logic.{⊎-elim}
 use mathlib.Core.Bool.{Bool, true, false}
 use mathlib.Core.List.{List, _++_}
 use Prim.Native.Nat.{ℕ, _-_, _≤_, _<_}
 use native.Mathlib.Omega.{arith}
 use lib.ListN.{length, getD, replicate}
 use Rattle.theory.specs.Graph.{Times}
-use Rattle.theory.specs.Budget.{Timed, Budget}
+use Rattle.theory.specs.Budget.{Budget}
 use Rattle.theory.proofs.TimedLaws.{timed-once, possible}
 use Rattle.board.specs.declared.Board.{Board}
 use Rattle.board.specs.Board.{usable, view}

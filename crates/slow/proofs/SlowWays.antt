@@ -1,6 +1,6 @@
 -- The ways of `slow_path`, in plain values.
 -- Assumes nothing.
-use mathlib.Core.Path.{_≡_, refl, sym, ap, _∙_}
+use mathlib.Core.Path.{_≡_, _∙_}
 use mathlib.Core.Bool.{true, false}
 use mathlib.Core.List.{List}
 use Prim.Native.Nat.{ℕ, _≤_, _<_}
@@ -14,7 +14,6 @@ use Rattle.times.specs.declared.Schedule.{Schedule}
 use Rattle.times.specs.Times.{table, fastestsOf, Joined, Timeable, TimesOf}
 use Rattle.times.proofs.TimesLaws.{fastest-timeable, fastest-timed, times-joined}
 use Rattle.slow.specs.declared.Trail.{Trail}
-use Rattle.slow.specs.declared.ShownPath.{ShownPath}
 use Rattle.slow.specs.Slow.{LastPart, Loopless, FastestEnds, shown, inTime, SlowOf, kept, exceeded}
 use Rattle.slow.specs.Walk.{lastOf, backsOf, trailOf, walkOf}
 use Rattle.slow.proofs.Ways.{last-below}

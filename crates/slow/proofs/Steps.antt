@@ -5,13 +5,13 @@ use mathlib.Core.Logic.{⊎-elim}
 use mathlib.Core.List.{List}
 use Prim.Native.Nat.{ℕ, zero, suc, min, _+_, _≤_, _<_}
 use native.Mathlib.Omega.{arith}
-use lib.Dec.{eqb, ltb}
+use lib.Dec.{eqb}
 use lib.ListN.{getD}
 use borrow.Author.Tests.{lt-ltb, le-ltb, eq-eqb, ne-eqb}
 use Rattle.base.specs.Pick.{pick}
 use Rattle.base.proofs.Cases.{lt-or-le, eq-or-ne, pick-elim}
 use Rattle.theory.specs.Sum.{share, cells}
-use Rattle.theory.specs.Graph.{Graph, Lawful}
+use Rattle.theory.specs.Graph.{Graph}
 use Rattle.theory.specs.Budget.{greatest, arrive, Timed}
 use Rattle.theory.proofs.SumLaws.{below-suc, share-eq, share-ne}
 use Rattle.theory.proofs.ArriveLaws.{arrive-ge}
@@ -19,8 +19,7 @@ use Rattle.board.specs.declared.Link.{Link}
 use Rattle.board.specs.declared.Board.{Board}
 use Rattle.board.specs.Board.{noLink, linkAt, view, WellFormed}
 use Rattle.times.specs.Times.{wireOf}
-use Rattle.board.proofs.Lawful.{lawful}
-use Rattle.slow.specs.Slow.{Joins, First, LastPart, StepBack}
+use Rattle.slow.specs.Slow.{First, LastPart, StepBack}
 use Rattle.slow.specs.Walk.{lastOf, backOf}
 
 -- ---- the last part

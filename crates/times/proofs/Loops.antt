@@ -3,7 +3,7 @@
 use mathlib.Core.Path.{_≡_, refl, sym, ap, _∙_}
 use mathlib.Core.Bool.{true, false}
 use mathlib.Core.List.{List}
-use Prim.Native.Nat.{ℕ, zero, suc, max, _+_, _*_, _≤_, _<_}
+use Prim.Native.Nat.{ℕ, suc, max, _+_, _*_, _≤_, _<_}
 use native.Mathlib.Omega.{arith}
 use native.Mathlib.Numerals.{add-one}
 use native.Mathlib.Nat.{mul-le-mul-left}
@@ -13,7 +13,7 @@ use mir.Syntax.{w64, w32}
 use mir.Val.{Fits}
 use borrow.Author.Count.{below-more}
 use Rattle.base.proofs.Cases.{finished}
-use Rattle.theory.specs.Sum.{share, cells}
+use Rattle.theory.specs.Sum.{cells}
 use Rattle.theory.specs.Budget.{greatest}
 use Rattle.theory.proofs.SumLaws.{share-eq, share-ne}
 use Rattle.curve.specs.Curve.{Good, slowestOf}

@@ -8,16 +8,14 @@ use mathlib.Core.List.{List}
 use Prim.Native.Nat.{ℕ, zero, suc, _+_, _*_, _≤_, _<_}
 use native.Mathlib.Omega.{arith}
 use native.Mathlib.Numerals.{add-one}
-use lib.ListN.{length, getD}
+use lib.ListN.{length}
 use Rattle.base.proofs.Cases.{lt-or-le}
 use Rattle.theory.specs.Sum.{cells}
-use Rattle.theory.specs.Graph.{Graph, Ranked}
-use Rattle.theory.specs.Budget.{arrive, Timed}
+use Rattle.theory.specs.Budget.{arrive}
 use Rattle.theory.proofs.ArriveLaws.{arrive-le, arrive-ext}
 use Rattle.board.specs.declared.Link.{Link}
 use Rattle.board.specs.declared.Board.{Board}
 use Rattle.board.specs.Board.{linkAt, view, WellFormed}
-use Rattle.times.specs.declared.Schedule.{Schedule}
 use Rattle.times.specs.Times.{table, wireOf, arrivalOf, startsOf, endsOf, Joined, Summed, Same, Timeable, TimesOf}
 use Rattle.times.proofs.TableLaws.{table-length, table-at, table-past, firsts-at, firsts-past, firsts-room}
 use Rattle.times.proofs.Loops.{wire-at}

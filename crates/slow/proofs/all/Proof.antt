@@ -2,7 +2,6 @@
 -- Assumes nothing.
 use Rattle.times.specs.Times.{table}
 use mathlib.Core.Path.{refl}
-use borrow.Author.Needs.{needs}
 use Rattle.slow.proofs.all.Statement.{statement}
 use Rattle.slow.proofs.all.Tie as tie
 use Rattle.slow.proofs.all.Reads as reads

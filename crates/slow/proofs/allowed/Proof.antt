@@ -2,7 +2,6 @@
 -- Assumes nothing.
 use Rattle.board.specs.Board.{usable}
 use mathlib.Core.Path.{refl}
-use borrow.Author.Needs.{needs}
 use Rattle.slow.proofs.allowed.Statement.{statement}
 use Rattle.slow.proofs.allowed.Tie as tie
 use Rattle.slow.proofs.allowed.Reads as reads

@@ -2,7 +2,6 @@
 -- Assumes nothing.
 use Rattle.base.proofs.Tests.{tests}
 use Rattle.base.specs.Pick.{pick}
-use borrow.Author.Needs.{needs}
 use Rattle.slow.proofs.awaited.Statement.{statement}
 use Rattle.slow.proofs.awaited.Tie as tie
 use Rattle.slow.proofs.awaited.Reads as reads

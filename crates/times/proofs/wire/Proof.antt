@@ -2,7 +2,6 @@
 -- Assumes nothing.
 use Rattle.times.specs.Times.{wireOf}
 use mathlib.Core.Path.{refl}
-use borrow.Author.Needs.{needs}
 use Rattle.times.proofs.wire.Statement.{statement}
 use Rattle.times.proofs.wire.Tie as tie
 use Rattle.times.proofs.wire.Reads as reads

@@ -2,7 +2,6 @@
 -- Assumes nothing.
 use Rattle.times.specs.Times.{table}
 use mathlib.Core.Path.{refl}
-use borrow.Author.Needs.{needs}
 use Rattle.times.proofs.zeros.Statement.{statement}
 use Rattle.times.proofs.zeros.Tie as tie
 use Rattle.times.proofs.zeros.Reads as reads
