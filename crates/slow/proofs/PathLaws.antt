@@ -72,7 +72,8 @@ module _ (G : Graph) (o : Lawful G) where
         let up′ = st′ .greatest (st .by .link) (st .by .here) (st .by .to) in
         omega (arith, st .lowest (st′ .by .link) (st′ .by .here) (st′ .by .to) (omega arith), st′ .by .from)
 
-  pub walked-once : {e e′ : ℕ → ℕ} → ((p : ℕ) → p < parts → e p ≡ e′ p) → {p : ℕ} {path path′ : List ℕ} → Walked G e p path → Walked G e′ p path′ → path ≡ path′
+  pub walked-once : {e e′ : ℕ → ℕ} → ((p : ℕ) → p < parts → e p ≡ e′ p) → {p : ℕ} {path path′ : List ℕ} → Walked G e p path
+      → Walked G e′ p path′ → path ≡ path′
   walked-once same (first f) (first f′) = refl
   walked-once same (first f) (next st′ w′) = absurd (f .none (st′ .by .link) (st′ .by .here) (st′ .by .to))
   walked-once same (next st w) (first f′) = absurd (f′ .none (st .by .link) (st .by .here) (st .by .to))

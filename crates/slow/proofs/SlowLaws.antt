@@ -94,7 +94,9 @@ module _ (b : Board) (ok : Loopless b) where
     pub path-slow : SlowOf b r → TooSlow b → r .slow ≡ true
     unfolding view
     path-slow (kept f within is) way =
-        absurd (omega (arith, path-le (view b) (lawful b (ok .formed)) (f .timed) (way .is), within (way .part) (path-in (view b) (lawful b (ok .formed)) (f .timed) (way .is)), way .over))
+        let o = lawful b (ok .formed) in
+        let here = path-in (view b) o (f .timed) (way .is) in
+        absurd (omega (arith, path-le (view b) o (f .timed) (way .is), within (way .part) here, way .over))
     path-slow (exceeded {e = e} {p = p} {path = path} f last over w is) way = slow-yes (e p) path is
 
     -- a board is refused for time exactly where no budget is allowed

@@ -46,7 +46,8 @@ module _ (b : Board) (ok : Loopless b) (d : List ℕ) (isd : d ≡ fastestsOf b)
     unfolding inTime table view
     in-time a isa h xs none = kept ends (λ p k. omega (arith, last-part .greatest p k)) (rw none)
 
-    pub too-slow : (a : ℕ) → a ≡ usable b → a < getD (t .end) last 0 → (back : List ℕ) → back ≡ backsOf (b .link) (t .start) (t .end) (b .links)
+    pub too-slow : (a : ℕ) → a ≡ usable b → a < getD (t .end) last 0 → (back : List ℕ)
+        → back ≡ backsOf (b .link) (t .start) (t .end) (b .links)
         → (trail : Trail) → trail ≡ walkOf (b .parts) back last
         → SlowOf b (record { slow = true; ticks = getD (t .end) last 0; count = trail .count; path = trail .parts })
     unfolding shown trailOf view

@@ -112,7 +112,8 @@ module _ (link : List Link) (s e : List ℕ) (p : ℕ) where
   unfolding backOf
   back-suc k = refl
 
-  candidate-hit : (k : ℕ) → getD link k noLink .to ≡ p → cells e (getD link k noLink .from) + wireOf (getD link k noLink) ≡ cells s p → candidate k ≡ getD link k noLink .from
+  candidate-hit : (k : ℕ) → getD link k noLink .to ≡ p → cells e (getD link k noLink .from) + wireOf (getD link k noLink) ≡ cells s p
+      → candidate k ≡ getD link k noLink .from
   unfolding pick
   candidate-hit k to is = rw (eq-eqb _ _ to, eq-eqb _ _ is)
 
@@ -162,7 +163,10 @@ module _ (b : Board) (ok : WellFormed b) (s e : List ℕ) (t : Timed (view b) (v
   back-first p h none = record {
     none = λ l k q.
         let f = ok .from-in l k in
-        let a = arrival (view b) (cells e) p (omega (arith, arrive-ge (view b) (cells e) l k, ap (arrive (view b) (cells e)) q, t .ends (linkAt b l .from) f, ok .curves (linkAt b l .from) f .fastest-from)) in
+        let starts = arrive-ge (view b) (cells e) l k in
+        let here = ap (arrive (view b) (cells e)) q in
+        let ends = t .ends (linkAt b l .from) f in
+        let a = arrival (view b) (cells e) p (omega (arith, ok .curves (linkAt b l .from) f .fastest-from)) in
         omega (arith, back-le (b .link) s e p (b .links) (a .link) (a .here) (a .to) (a .is ∙ sym (t .starts p h)), ok .from-in (a .link) (a .here), ok .parts-to);
   }
 

@@ -62,7 +62,8 @@ module _ (link : List Link) (s e : List ℕ) where
   unfolding backsOf backOf
   backs-none back is = is
 
-  pub backs-more : (n : ℕ) → Joined link n e → (back : List ℕ) (k : ℕ) → k < n → back ≡ backsOf link s e k → (w a v : ℕ) → w ≡ wireOf (getD link k noLink)
+  pub backs-more : (n : ℕ) → Joined link n e → (back : List ℕ) (k : ℕ) → k < n → back ≡ backsOf link s e k → (w a v : ℕ)
+      → w ≡ wireOf (getD link k noLink)
       → a ≡ pick (eqb (getD e (getD link k noLink .from) 0 + w) (getD s (getD link k noLink .to) 0)) (getD link k noLink .from) 64
       → v ≡ min (getD back (getD link k noLink .to) 0) a
       → set back (getD link k noLink .to) v ≡ backsOf link s e (k + 1)
@@ -92,7 +93,8 @@ module _ (back : List ℕ) (at : ℕ) where
   no-part zero r is h = is
   no-part (suc n) r is h = rw (le-leb 64 at h) is
 
-  pub onward : (left : ℕ) (before r : Trail) → (left ≡ 0 → ⊥) → at < 64 → before ≡ walkOf (left - 1) back (getD back at 0) → r ≡ pushedOf before at → r ≡ walkOf left back at
+  pub onward : (left : ℕ) (before r : Trail) → (left ≡ 0 → ⊥) → at < 64 → before ≡ walkOf (left - 1) back (getD back at 0)
+      → r ≡ pushedOf before at → r ≡ walkOf left back at
   unfolding walkOf pick
   onward zero before r ne h p q = absurd (ne refl)
   onward (suc n) before r ne h p q = rw (lt-leb 64 at h) (q ∙ ap (λ (t : Trail). pushedOf t at) (rw sub-one at p))

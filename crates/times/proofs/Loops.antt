@@ -89,7 +89,8 @@ module _ (b : Board) (d : List ℕ) where
   pub fastest-none : d ≡ table 64 (λ p. 0) → d ≡ firsts 0 (view b .fastest)
   fastest-none = firsts-none _ d
 
-  pub fastest-more : WellFormed b → (k : ℕ) → k < b .parts → d ≡ firsts k (view b .fastest) → set d k (curveAt b k .fastest .0) ≡ firsts (k + 1) (view b .fastest)
+  pub fastest-more : WellFormed b → (k : ℕ) → k < b .parts → d ≡ firsts k (view b .fastest)
+      → set d k (curveAt b k .fastest .0) ≡ firsts (k + 1) (view b .fastest)
   unfolding view
   fastest-more ok k h is = firsts-more _ d k _ (omega (arith, ok .parts-to)) is refl
 
@@ -104,7 +105,8 @@ module _ (b : Board) (d : List ℕ) where
   pub slowest-none : d ≡ table 64 (λ p. 0) → d ≡ firsts 0 (slowestAt b)
   slowest-none = firsts-none _ d
 
-  pub slowest-more : WellFormed b → (k : ℕ) → k < b .parts → d ≡ firsts k (slowestAt b) → (v : ℕ) → v ≡ slowestOf (curveAt b k) → set d k v ≡ firsts (k + 1) (slowestAt b)
+  pub slowest-more : WellFormed b → (k : ℕ) → k < b .parts → d ≡ firsts k (slowestAt b) → (v : ℕ) → v ≡ slowestOf (curveAt b k)
+      → set d k v ≡ firsts (k + 1) (slowestAt b)
   unfolding slowestAt
   slowest-more ok k h is v new = firsts-more _ d k v (omega (arith, ok .parts-to)) is new
 

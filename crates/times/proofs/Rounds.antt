@@ -127,7 +127,8 @@ module _ (b : Board) (delay : List ℕ) (ok : Timeable b delay) where
     }
 
   -- starts by the ends, and ends by the starts
-  timed : (s e : List ℕ) → s ≡ startsOf (b .link) (b .links) e → ((p : ℕ) → p < b .parts → cells e p ≡ arrive (view b) (cells e) p + cells delay p)
+  timed : (s e : List ℕ) → s ≡ startsOf (b .link) (b .links) e
+      → ((p : ℕ) → p < b .parts → cells e p ≡ arrive (view b) (cells e) p + cells delay p)
       → ((p : ℕ) → b .parts ≤ p → cells e p ≡ 0) → length e ≡ 64 → TimesOf b delay (record { start = s; end = e })
   unfolding view
   timed s e is sums blank room = rw is (record {

@@ -40,7 +40,8 @@ pub table-ext : (n : ℕ) (f g : ℕ → ℕ) → ((i : ℕ) → i < n → f i �
 table-ext n f g same = table-is n g (table n f) (table-length n f) (λ i h. table-at n f i h ∙ same i h)
 
 -- a store makes the table of what differs at that place alone
-pub table-set : (n : ℕ) (f g : ℕ → ℕ) (i v : ℕ) → i < n → v ≡ g i → ((j : ℕ) → j < n → (j ≡ i → ⊥) → f j ≡ g j) → set (table n f) i v ≡ table n g
+pub table-set : (n : ℕ) (f g : ℕ → ℕ) (i v : ℕ) → i < n → v ≡ g i → ((j : ℕ) → j < n → (j ≡ i → ⊥) → f j ≡ g j)
+    → set (table n f) i v ≡ table n g
 table-set n f g i v h is others =
     table-is n g (set (table n f) i v) (length-set (table n f) i v ∙ table-length n f)
     (λ j k. elim (ℕ-discrete j i) [

@@ -83,7 +83,8 @@ module _ (b : Board) (ok : WellFormed b) where
     delays-to = λ p h. rw is (omega (arith, fastest-at p h, ok .curves p h .fastest-to));
   }
 
-  pub fastest-timed : (d : List ℕ) → d ≡ fastestsOf b → (r : Schedule) → TimesOf b d r → Timed (view b) (view b .fastest) (cells (r .start)) (cells (r .end))
+  pub fastest-timed : (d : List ℕ) → d ≡ fastestsOf b → (r : Schedule) → TimesOf b d r
+      → Timed (view b) (view b .fastest) (cells (r .start)) (cells (r .end))
   unfolding view
   fastest-timed d is r t = record { starts = t .timed .starts; ends = λ p h. omega (arith, t .timed .ends p h, fastest-at p h, ap (λ (l : List ℕ). cells l p) is) }
 
