@@ -1,0 +1,60 @@
+-- A curve as bytes: "fastest, power, run count, and length then saving for each run". It stands so in a design file and in an order.
+-- Assumes nothing.
+use Prim.Native.Nat.{ℕ, zero, suc, _-_}
+use mathlib.Core.Bool.{Bool, true}
+use mathlib.Core.List.{List, [], _++_}
+use lib.Dec.{ltb, leb, eqb}
+use lib.ListN.{set, replicate}
+use Rattle.base.specs.Pick.{pick}
+use Rattle.refusal.specs.declared.Why.the-variants.{SavingNotBelow, PowerBelowSavings}
+use Rattle.curve.specs.declared.Curve.{Curve}
+use Rattle.curve.specs.Curve.{noRun, lengthAt, savingAt, savingsOf}
+use Rattle.groups.specs.Number.{encode}
+use Rattle.fields.specs.Parse.{Parse, got, stop, and-then, repeat, fieldAt}
+
+-- a curve before its runs are read
+unfoldable pub bare : ℕ → ℕ → ℕ → Curve
+bare fastest power count = record {
+  fastest = record { 0 = fastest };
+  power = record { 0 = power };
+  count = count;
+  runs = replicate 4 noRun;
+}
+
+-- a curve with its run i
+abbrev pub withRun : Curve → ℕ → ℕ → ℕ → Curve
+withRun c i length saving = record {
+  fastest = c .fastest;
+  power = c .power;
+  count = c .count;
+  runs = set (c .runs) i (record { length = record { 0 = length }; saving = record { 0 = saving } });
+}
+
+-- the saving of run i is below that of the run before; the first run has none before it
+unfoldable pub falls : Curve → ℕ → ℕ → Bool
+falls c i saving = pick (eqb i 0) true (ltb saving (savingAt c (i - 1)))
+
+-- run i of the curve: for the saving refusal 4, then 5, at the saving's first byte
+unfoldable pub runFrom : List ℕ → ℕ → Curve → ℕ → Parse Curve
+runFrom s i c at =
+    and-then (fieldAt s 1 255 at) (λ length at₁.
+    and-then (fieldAt s 1 1000 at₁) (λ saving at₂.
+    pick (falls c i saving) (got (withRun c i length saving) at₂) (stop SavingNotBelow at₁)))
+
+-- "Refusal 6 comes after a part's last run", at the power's first byte
+unfoldable pub curveFrom : List ℕ → ℕ → Parse Curve
+curveFrom s at =
+    and-then (fieldAt s 1 1023 at) (λ fastest at₁.
+    and-then (fieldAt s 0 2000000 at₁) (λ power at₂.
+    and-then (fieldAt s 0 4 at₂) (λ count at₃.
+    and-then (repeat (runFrom s) (bare fastest power count) at₃ count) (λ c at₄.
+    pick (leb (savingsOf c) power) (got c at₄) (stop PowerBelowSavings at₁)))))
+
+-- ---- the bytes of a curve
+-- the first k runs
+unfoldable pub runsBytes : Curve → ℕ → List ℕ
+runsBytes c zero = []
+runsBytes c (suc k) = runsBytes c k ++ (encode (lengthAt c k) ++ encode (savingAt c k))
+
+unfoldable pub curveBytes : Curve → List ℕ
+curveBytes c = encode (c .fastest .0) ++ (encode (c .power .0) ++ (encode (c .count) ++ runsBytes c (c .count)))

@@ -1,0 +1,1 @@
+// Numbers in their ranges, and a curve, as bytes.
