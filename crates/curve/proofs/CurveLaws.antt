@@ -56,14 +56,14 @@ module _ (c : Curve) where
   ticks-held room =
       ⊎-elim
       (λ h.
-        let m : ℕ = c .count - 4 in
-        let most : c .count ≡ 4 + m = omega arith in
-        let four : min (c .count) 4 ≡ 4 = omega arith in
-        rw four (rw most (sym (sum-split (lengthAt c) 4 m ∙ omega (
-          arith,
-          sum-ext m {f = λ i. lengthAt c (4 + i)} {g = λ i. 0} (λ i l. ap (λ (r : Run). r .length .0) (List·getD-eq-default (c .runs) noRun (omega arith))),
-          sum-zero m,
-        )))))
+      let m : ℕ = c .count - 4 in
+      let most : c .count ≡ 4 + m = omega arith in
+      let four : min (c .count) 4 ≡ 4 = omega arith in
+      rw four (rw most (sym (sum-split (lengthAt c) 4 m ∙ omega (
+        arith,
+        sum-ext m {f = λ i. lengthAt c (4 + i)} {g = λ i. 0} (λ i l. ap (λ (r : Run). r .length .0) (List·getD-eq-default (c .runs) noRun (omega arith))),
+        sum-zero m,
+      )))))
       (λ h. let all : min (c .count) 4 ≡ c .count = omega arith in rw all)
       (lt-or-le 4 (c .count))
 
@@ -141,8 +141,10 @@ good-same a b ga gb fastest power count runs = same
         (λ l. runs i l)
         (λ l. ga .blank i l (omega (arith, ga .room)) ∙ sym (gb .blank i (omega arith) (omega (arith, ga .room))))
         (lt-or-le i (a .count))
+
     list : a .runs ≡ b .runs
     list = ext-getD noRun (a .runs) (b .runs) (ga .room ∙ sym (gb .room)) at
+
     same : a ≡ b
     same = curve-eq _ _ _ _ _ _ _ _ fastest power count list
 

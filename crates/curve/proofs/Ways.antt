@@ -164,16 +164,16 @@ module _ (c : Curve) (j : ℕ) where
   saves-more k h =
       ⊎-elim
       (λ l.
-        let e₁ : min j (sum (k + 1) (lengthAt c)) ≡ j = omega (arith, sum-next k (lengthAt c)) in
-        let e₂ : min j (sum k (lengthAt c)) ≡ j = omega arith in
-        let e₃ : min (j - sum k (lengthAt c)) (lengthAt c k) ≡ 0 = omega arith in
-        rw (e₁, e₂, e₃) (omega arith))
+      let e₁ : min j (sum (k + 1) (lengthAt c)) ≡ j = omega (arith, sum-next k (lengthAt c)) in
+      let e₂ : min j (sum k (lengthAt c)) ≡ j = omega arith in
+      let e₃ : min (j - sum k (lengthAt c)) (lengthAt c k) ≡ 0 = omega arith in
+      rw (e₁, e₂, e₃) (omega arith))
       (λ l.
-        let e₁ : min j (sum (k + 1) (lengthAt c)) ≡ sum k (lengthAt c) + min (j - sum k (lengthAt c)) (lengthAt c k) = omega (arith, sum-next k (lengthAt c)) in
-        let e₂ : min j (sum k (lengthAt c)) ≡ sum k (lengthAt c) = omega arith in
-        rw (e₁, e₂)
-        (saves-run (lengthAt c) (savingAt c) (c .count) k (sum k (lengthAt c)) (min (j - sum k (lengthAt c)) (lengthAt c k)) h (le-refl _)
-        (omega (arith, rw add-one at (sum-next k (lengthAt c))))))
+      let e₁ : min j (sum (k + 1) (lengthAt c)) ≡ sum k (lengthAt c) + min (j - sum k (lengthAt c)) (lengthAt c k) = omega (arith, sum-next k (lengthAt c)) in
+      let e₂ : min j (sum k (lengthAt c)) ≡ sum k (lengthAt c) = omega arith in
+      rw (e₁, e₂)
+      (saves-run (lengthAt c) (savingAt c) (c .count) k (sum k (lengthAt c)) (min (j - sum k (lengthAt c)) (lengthAt c k)) h (le-refl _)
+      (omega (arith, rw add-one at (sum-next k (lengthAt c))))))
       (lt-or-le j (sum k (lengthAt c)))
 
   pub slowed-more : (k n : ℕ) (s s′ : Slowing) → n ≡ min (c .count) 4 → k < n → s ≡ slowedTo k → s′ ≡ usedOf s (runAt c k) → s′ ≡ slowedTo (k + 1)

@@ -2,7 +2,6 @@
 // All but `slowest` and `savings` hold for any value of a curve: `power_at` and the savings go run by run and take off as they go, so no sum can
 // pass its type.
 use refusal::Why;
-
 ghost use mathlib.Core.Path.{_≡_};
 ghost use Prim.Native.Nat.{_*_, _-_, _<_, min};
 ghost use Rattle.curve.specs.Curve.{Good, slowestOf, savingsOf};

@@ -7,7 +7,9 @@ use lib.Dec.{ltb, leb, eqb}
 use lib.ListN.{set, replicate}
 use Rattle.base.specs.Pick.{pick}
 use Rattle.refusal.specs.declared.Why.the-variants.{SavingNotBelow, PowerBelowSavings}
+use Rattle.refusal.specs.declared.Answer.the-variants.{Done, Refused}
 use Rattle.curve.specs.declared.Curve.{Curve}
+use Rattle.fields.specs.declared.CurveRead.{CurveRead}
 use Rattle.curve.specs.Curve.{noRun, lengthAt, savingAt, savingsOf}
 use Rattle.groups.specs.Number.{encode}
 use Rattle.fields.specs.Parse.{Parse, got, stop, and-then, repeat, fieldAt}
@@ -41,14 +43,23 @@ runFrom s i c at =
     and-then (fieldAt s 1 1000 at₁) (λ saving at₂.
     pick (falls c i saving) (got (withRun c i length saving) at₂) (stop SavingNotBelow at₁)))
 
--- "Refusal 6 comes after a part's last run", at the power's first byte
+-- run count and runs. "Refusal 6 comes after a part's last run", at the power's first byte
+unfoldable pub runsFrom : List ℕ → ℕ → ℕ → ℕ → ℕ → Parse Curve
+runsFrom s fastest power powerPlace at =
+    and-then (fieldAt s 0 4 at) (λ count at₁.
+    and-then (repeat (runFrom s) (bare fastest power count) at₁ count) (λ c next.
+    pick (leb (savingsOf c) power) (got c next) (stop PowerBelowSavings powerPlace)))
+
 unfoldable pub curveFrom : List ℕ → ℕ → Parse Curve
 curveFrom s at =
     and-then (fieldAt s 1 1023 at) (λ fastest at₁.
     and-then (fieldAt s 0 2000000 at₁) (λ power at₂.
-    and-then (fieldAt s 0 4 at₂) (λ count at₃.
-    and-then (repeat (runFrom s) (bare fastest power count) at₃ count) (λ c at₄.
-    pick (leb (savingsOf c) power) (got c at₄) (stop PowerBelowSavings at₁)))))
+    runsFrom s fastest power at₁ at₂))
+
+-- what the reader hands back: at a fault no curve, and no place past it
+abbrev pub curveRead : Parse Curve → CurveRead
+curveRead (got c next) = record { answer = Done; next = next; curve = c }
+curveRead (stop why place) = record { answer = Refused why place; next = 0; curve = bare 0 0 0 }
 
 -- ---- the bytes of a curve
 -- the first k runs

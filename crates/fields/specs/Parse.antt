@@ -31,6 +31,8 @@ number (Number v next) = got v next
 number (Refused why place) = stop why place
 
 -- a number from low to high: "number outside its field's range"; place: "its first byte"
+unfoldable pub rangedAt : ℕ → ℕ → ℕ → ℕ → ℕ → Parse ℕ
+rangedAt low high at v next = pick (ltb v low) (stop OutOfRange at) (pick (ltb high v) (stop OutOfRange at) (got v next))
+
 unfoldable pub fieldAt : List ℕ → ℕ → ℕ → ℕ → Parse ℕ
-fieldAt s low high at =
-    and-then (number (numberAt s at)) (λ v next. pick (ltb v low) (stop OutOfRange at) (pick (ltb high v) (stop OutOfRange at) (got v next)))
+fieldAt s low high at = and-then (number (numberAt s at)) (rangedAt low high at)
