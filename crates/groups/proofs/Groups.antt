@@ -16,41 +16,46 @@ use Rattle.groups.specs.declared.Read.{Read}
 use Rattle.groups.specs.declared.Read.the-variants.{Number, Refused}
 use Rattle.groups.specs.Number.{limit, shortestEnd, groupsFrom, numberAt}
 
-module _ (s : List ℕ) (first at scale sum : ℕ) where
-  pub input-ends : (left : ℕ) → 0 < left → length s ≤ at → groupsFrom left s first at scale sum ≡ Refused CutShort (length s)
+-- ---- the four ways that a group can go
+module _ (left : ℕ) (s : List ℕ) (first at scale sum : ℕ) where
+  pub input-ends : length s ≤ at → groupsFrom (suc left) s first at scale sum ≡ Refused CutShort (length s)
   unfolding groupsFrom pick
-  input-ends zero some ends = absurd (omega arith)
-  input-ends (suc left) some ends = rw (le-ltb _ _ ends)
+  input-ends ends = rw (le-ltb _ _ ends)
 
-  pub number-ends : (left : ℕ) → 0 < left → at < length s → getD s at 0 < 128 → shortestEnd first at (getD s at 0) ≡ true → groupsFrom left s first at scale sum ≡ Number (sum + getD s at 0 % 128 * scale) (at + 1)
-  unfolding groupsFrom pick
-  number-ends zero some more last short = absurd (omega arith)
-  number-ends (suc left) some more last short = rw (lt-ltb _ _ more, lt-ltb _ _ last, short)
+  module _ (more : at < length s) where
+    pub number-ends : getD s at 0 < 128 → shortestEnd first at (getD s at 0) ≡ true → groupsFrom (suc left) s first at scale sum ≡ Number (sum + getD s at 0 % 128 * scale) (at + 1)
+    unfolding groupsFrom pick
+    number-ends last short = rw (lt-ltb _ _ more, lt-ltb _ _ last, short)
 
-  pub longer-than-needed : (left : ℕ) → 0 < left → at < length s → getD s at 0 < 128 → shortestEnd first at (getD s at 0) ≡ false → groupsFrom left s first at scale sum ≡ Refused NotShortest first
-  unfolding groupsFrom pick
-  longer-than-needed zero some more last long = absurd (omega arith)
-  longer-than-needed (suc left) some more last long = rw (lt-ltb _ _ more, lt-ltb _ _ last, long)
+    pub longer-than-needed : getD s at 0 < 128 → shortestEnd first at (getD s at 0) ≡ false → groupsFrom (suc left) s first at scale sum ≡ Refused NotShortest first
+    unfolding groupsFrom pick
+    longer-than-needed last long = rw (lt-ltb _ _ more, lt-ltb _ _ last, long)
 
-  pub goes-on : (left : ℕ) → 0 < left → at < length s → 128 ≤ getD s at 0 → groupsFrom left s first at scale sum ≡ groupsFrom (left - 1) s first (at + 1) (scale * 128) (sum + getD s at 0 % 128 * scale)
-  unfolding groupsFrom pick
-  goes-on zero some more on = absurd (omega arith)
-  goes-on (suc left) some more on = let one-less : suc left - 1 ≡ left = omega arith in rw (lt-ltb _ _ more, le-ltb _ _ on, one-less)
+    pub goes-on : 128 ≤ getD s at 0 → groupsFrom (suc left) s first at scale sum ≡ groupsFrom left s first (at + 1) (scale * 128) (sum + getD s at 0 % 128 * scale)
+    unfolding groupsFrom pick
+    goes-on on = rw (lt-ltb _ _ more, le-ltb _ _ on)
 
 -- ---- the ways through `read_number`: what stands at the loop's head is the number asked for, so what the way finds is
+one-more : (left : ℕ) → 0 < left → left ≡ suc (left - 1)
+one-more left some = omega arith
+
 module _ (s : List ℕ) (first at scale sum left : ℕ) (is : groupsFrom left s first at scale sum ≡ numberAt s first) (some : 0 < left) where
+  -- with the group to come counted apart
+  head : groupsFrom (suc (left - 1)) s first at scale sum ≡ numberAt s first
+  head = rw (one-more left some) at is
+
   pub cut-short : length s ≤ at → Refused CutShort (length s) ≡ numberAt s first
-  cut-short ends = sym (input-ends s first at scale sum left some ends) ∙ is
+  cut-short ends = sym (input-ends (left - 1) s first at scale sum ends) ∙ head
 
   module _ (more : at < length s) where
     pub not-shortest : (r : Bool) → getD s at 0 < 128 → r ≡ shortestEnd first at (getD s at 0) → r ≡ false → Refused NotShortest first ≡ numberAt s first
-    not-shortest r last test long = sym (longer-than-needed s first at scale sum left some more last (sym test ∙ long)) ∙ is
+    not-shortest r last test long = sym (longer-than-needed (left - 1) s first at scale sum more last (sym test ∙ long)) ∙ head
 
     pub number-read : (r : Bool) (h : ℕ) → getD s at 0 < 128 → r ≡ shortestEnd first at (getD s at 0) → r ≡ true → h ≡ getD s at 0 % 128 → Number (sum + h * scale) (at + 1) ≡ numberAt s first
-    number-read r h last test short bits = rw bits (sym (number-ends s first at scale sum left some more last (sym test ∙ short)) ∙ is)
+    number-read r h last test short bits = rw bits (sym (number-ends (left - 1) s first at scale sum more last (sym test ∙ short)) ∙ head)
 
     pub group-read : (h : ℕ) → 128 ≤ getD s at 0 → h ≡ getD s at 0 % 128 → groupsFrom (left - 1) s first (at + 1) (scale * 128) (sum + h * scale) ≡ numberAt s first
-    group-read h on bits = rw bits (sym (goes-on s first at scale sum left some more on) ∙ is)
+    group-read h on bits = rw bits (sym (goes-on (left - 1) s first at scale sum more on) ∙ head)
 
 pub groups-spent : (s : List ℕ) (first at scale sum left : ℕ) → groupsFrom left s first at scale sum ≡ numberAt s first → left ≤ 0 → Refused NotShortest first ≡ numberAt s first
 unfolding groupsFrom

@@ -24,7 +24,7 @@ loop-holds c = (refl, search needs, search needs)
 
 -- src/lib.rt:46:13
 returns : tie.Need-returns Inv-loop μ-loop
-returns c = search (cut-short, not-shortest, number-read, groups-spent)
+returns c = search cut-short
 
 -- src/lib.rt:51:17
 shared-slice-read-g : tie.Need-shared-slice-read-g Inv-loop μ-loop
@@ -36,11 +36,11 @@ seven-bits-requires c κs = search needs
 
 -- src/lib.rt:52:21
 mul-sum : tie.Need-mul-sum Inv-loop μ-loop
-mul-sum c = search (group-fits, sum-fits)
+mul-sum c = search group-fits
 
 -- src/lib.rt:52:15
 add-sum : tie.Need-add-sum Inv-loop μ-loop
-add-sum c = search (group-fits, sum-fits)
+add-sum c = search sum-fits
 
 -- src/lib.rt:54:16
 shortest-end-requires : tie.Need-shortest-end-requires Inv-loop μ-loop
@@ -56,7 +56,7 @@ returns-2 c = number-read _ _ _ _ _ _ (c .before .before .before .before .before
 
 -- src/lib.rt:60:13
 returns-3 : tie.Need-returns-3 Inv-loop μ-loop
-returns-3 c = search (cut-short, not-shortest, number-read, groups-spent)
+returns-3 c = search not-shortest
 
 -- src/lib.rt:65:17
 mul-scale : tie.Need-mul-scale Inv-loop μ-loop
@@ -80,7 +80,7 @@ loop-again c = (search group-read, search sum-next, search scale-next)
 
 -- src/lib.rt:37:1
 returns-4 : tie.Need-returns-4 Inv-loop μ-loop
-returns-4 c = search (cut-short, not-shortest, number-read, groups-spent)
+returns-4 c = search groups-spent
 
 pub read-number-spec : {M : Type 1} → statement M
 read-number-spec =
