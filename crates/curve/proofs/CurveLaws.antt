@@ -7,13 +7,14 @@ use Prim.Native.Nat.{ℕ, zero, suc, _+_, _*_, _-_, _≤_, _<_, min}
 use native.Mathlib.Decide.{decLt}
 use native.Mathlib.Nat.{mul-le-mul}
 use native.Mathlib.Omega.{arith}
-use lib.ListN.{length, getD, List·getD-eq-default, getD-replicate}
+use lib.ListN.{length, List·getD-eq-default, getD-replicate}
 use lib.Seq.{ext-getD}
 use borrow.Author.Tests.{lt-ltb, le-ltb}
+use Rattle.base.specs.Pick.{pick}
 use Rattle.base.proofs.Cases.{lt-or-le}
 use Rattle.theory.specs.Sum.{sum}
 use Rattle.theory.specs.Saving.{saves, before, tick, Falling}
-use Rattle.theory.proofs.SumLaws.{sum-le, sum-ext, sum-mono, sum-const, sum-zero, sum-split}
+use Rattle.theory.proofs.SumLaws.{sum-le, sum-ext, sum-const, sum-zero, sum-split}
 use Rattle.theory.proofs.SavingLaws.{saves-most}
 use Rattle.theory.proofs.RunLaws.{tick-past, tick-falls, sum-runs}
 use Rattle.curve.specs.declared.Ticks.{Ticks}
@@ -21,7 +22,8 @@ use Rattle.curve.specs.declared.Microwatts.{Microwatts}
 use Rattle.curve.specs.declared.Run.{Run}
 use Rattle.curve.specs.declared.Curve.{Curve}
 use Rattle.curve.specs.Curve.{noRun, runAt, lengthAt, savingAt, ticksOf, slowestOf, savingOf, savingsOf, powerOf, Good}
-use Rattle.curve.specs.Answers.{flatOf}
+use Rattle.curve.specs.declared.Power.the-variants.{At}
+use Rattle.curve.specs.Answers.{flatOf, offCurve, powerAtOf}
 use Rattle.curve.specs.Tests.{Sized}
 
 -- what a tick of the first r runs saves is what one of these runs does
@@ -66,6 +68,26 @@ module _ (c : Curve) where
       )))))
       (λ h. let all : min (c .count) 4 ≡ c .count = omega arith in rw all)
       (lt-or-le 4 (c .count))
+
+  -- ---- the power at a delay below the fastest, past the slowest, and from the one to the other
+  pub power-at-below : (d : ℕ) → d < c .fastest .0 → powerAtOf c d ≡ offCurve d
+  unfolding powerAtOf pick
+  power-at-below d h = rw (lt-ltb d (c .fastest .0) h)
+
+  pub power-at-past : (d : ℕ) → slowestOf c < d → powerAtOf c d ≡ offCurve d
+  unfolding powerAtOf slowestOf pick
+  power-at-past d h =
+      let from : c .fastest .0 ≤ d = omega arith in
+      rw (le-ltb d (c .fastest .0) from, lt-ltb (c .fastest .0 + ticksOf c) d h)
+
+  pub power-at-on : (d : ℕ) → c .fastest .0 ≤ d → d ≤ slowestOf c → powerAtOf c d ≡ At (record { 0 = powerOf c d })
+  unfolding powerAtOf slowestOf pick
+  power-at-on d from to = rw (le-ltb d (c .fastest .0) from, le-ltb (c .fastest .0 + ticksOf c) d to)
+
+  -- the power t ticks past the fastest
+  pub power-used : (t : ℕ) → powerOf c (c .fastest .0 + t) ≡ c .power .0 - saves (savingOf c) t
+  unfolding powerOf
+  power-used t = let used : c .fastest .0 + t - c .fastest .0 ≡ t = omega arith in rw used
 
 -- ---- bounds, run by run
 pub lengths-to : (c : Curve) → ((i : ℕ) → i < c .count → lengthAt c i ≤ 255) → (k : ℕ) → k ≤ c .count → sum k (lengthAt c) ≤ 255 * k
@@ -116,6 +138,9 @@ module _ (c : Curve) (good : Good c) where
       (λ h. omega (arith, saving-past c j h))
       (lt-or-le j (ticksOf c))
 
+  pub affords-saves : saves (savingOf c) (ticksOf c) ≤ c .power .0
+  affords-saves = omega (arith, savings-saves c, good .affords)
+
   -- the power at a delay and what its ticks save are the power at the fastest
   pub power-saves : (d : ℕ) → powerOf c d + saves (savingOf c) (d - c .fastest .0) ≡ c .power .0
   unfolding powerOf
@@ -157,6 +182,11 @@ module _ (fastest : Ticks) (power : Microwatts) where
   pub flat-power : powerOf (flatOf fastest power) (fastest .0) ≡ power .0
   unfolding powerOf savingOf tick flatOf
   flat-power = omega (arith, sum-zero (fastest .0 - fastest .0))
+
+  pub flat-power-at : powerAtOf (flatOf fastest power) (fastest .0) ≡ At power
+  unfolding flatOf
+  flat-power-at =
+      power-at-on (flatOf fastest power) (fastest .0) (omega arith) (omega (arith, flat-slowest)) ∙ rw flat-power
 
   pub flat-good : 1 ≤ fastest .0 → fastest .0 ≤ 1023 → power .0 ≤ 2000000 → Good (flatOf fastest power)
   unfolding flatOf savingsOf sum

@@ -1,37 +1,36 @@
 -- The ways through the functions on curves: plain facts that their proofs cite.
 -- The idea of `power_at`: after k runs, of the j ticks past the fastest those are left that are beyond the k runs, and the others are saved.
 -- Assumes nothing.
-use mathlib.Core.Path.{_≡_, refl, sym, ap, _∙_}
+use mathlib.Core.Path.{_≡_, refl, sym, _∙_}
 use mathlib.Core.Bool.{Bool, true, false, not}
 use mathlib.Core.Logic.{⊎-elim}
-use Prim.Native.Nat.{ℕ, zero, suc, _+_, _*_, _-_, _^_, _≤_, _<_, min}
-use native.Mathlib.Nat.{le-refl, le-of-lt, lt-of-le-of-lt, mul-le-mul, mul-le-mul-left, sub-zero, min-zero}
+use Prim.Native.Nat.{ℕ, _+_, _*_, _-_, _^_, _≤_, _<_, min}
+use native.Mathlib.Nat.{le-refl, mul-le-mul, sub-zero, min-zero}
 use native.Mathlib.Omega.{arith}
 use native.Mathlib.Numerals.{add-one}
-use lib.Dec.{ltb, leb, eqb}
+use lib.Dec.{ltb, leb}
 use mathlib.Core.List.{List, map}
 use lib.ListN.{length, length-map}
 use mir.Syntax.{w32, w64}
 use mir.Val.{Fits}
-use borrow.Author.Tests.{not-true, not-false, lt-ltb, le-ltb, le-leb, lt-leb, eq-eqb, ne-eqb}
+use borrow.Author.Tests.{not-true, not-false, le-leb, lt-leb, eq-eqb, ne-eqb}
 use Rattle.base.specs.Pick.{pick}
 use Rattle.base.proofs.Cases.{lt-or-le, finished}
 use Rattle.theory.specs.Sum.{sum}
 use Rattle.theory.specs.Saving.{saves}
 use Rattle.theory.proofs.SumLaws.{sum-next}
 use Rattle.theory.proofs.RunLaws.{tick-run, saves-run}
-use Rattle.refusal.specs.declared.Why.the-variants.{OffCurve}
 use Rattle.curve.specs.declared.Microwatts.{Microwatts}
 use Rattle.curve.specs.declared.Run.{Run}
 use Rattle.curve.specs.declared.Curve.{Curve}
 use Rattle.curve.specs.declared.Slowing.{Slowing}
 use Rattle.curve.specs.declared.Power.{Power}
-use Rattle.curve.specs.declared.Power.the-variants.{At, Refused}
+use Rattle.curve.specs.declared.Power.the-variants.{At}
 use Rattle.curve.specs.declared.Last.the-variants.{Saving, Unused}
 use Rattle.curve.specs.Curve.{runAt, lengthAt, savingAt, ticksOf, slowestOf, savingOf, savingsOf, powerOf, Good}
-use Rattle.curve.specs.Answers.{nextSavingOf, lastSavingOf, powerAtOf, usedOf}
+use Rattle.curve.specs.Answers.{nextSavingOf, lastSavingOf, offCurve, powerAtOf, usedOf}
 use Rattle.curve.specs.Tests.{Sized, both, every, blankb, rangedb, placeb, goodb}
-use Rattle.curve.proofs.CurveLaws.{lengths-to, run-savings-to, savings-up-to, ticks-held, saving-past}
+use Rattle.curve.proofs.CurveLaws.{lengths-to, run-savings-to, savings-up-to, ticks-held, saving-past, power-at-below, power-at-past, power-at-on}
 use Rattle.curve.proofs.GoodLaws.{every-fails, places-sized}
 
 -- the product of two numbers of 32 bits has 64
@@ -185,9 +184,8 @@ module _ (c : Curve) (j : ℕ) where
       (rw (saves-more k (omega arith), run-length c k, run-saving c k) (omega arith)))
 
 module _ (c : Curve) (d : ℕ) where
-  pub below-fastest : d < c .fastest .0 → Refused OffCurve d ≡ powerAtOf c d
-  unfolding powerAtOf pick
-  below-fastest h = rw (lt-ltb d (c .fastest .0) h)
+  pub below-fastest : (r : Power) → r ≡ offCurve d → d < c .fastest .0 → r ≡ powerAtOf c d
+  below-fastest r is h = is ∙ sym (power-at-below c d h)
 
   module _ (n k : ℕ) (s : Slowing) (room : length (c .runs) ≡ 4) (from : c .fastest .0 ≤ d) (held : n ≡ min (c .count) 4) (l : k ≤ n) (h : n ≤ k)
       (is : s ≡ slowedTo c (d - c .fastest .0) k) where
@@ -198,18 +196,16 @@ module _ (c : Curve) (d : ℕ) where
     unfolding slowedTo
     ticks-left = rw is (rw all-ticks)
 
-    pub past-slowest : 0 < s .left .0 → Refused OffCurve d ≡ powerAtOf c d
-    unfolding powerAtOf slowestOf pick
-    past-slowest more =
-        let past : c .fastest .0 + ticksOf c < d = omega (arith, ticks-left) in
-        rw (le-ltb d (c .fastest .0) from, lt-ltb (c .fastest .0 + ticksOf c) d past)
+    pub past-slowest : (r : Power) → r ≡ offCurve d → 0 < s .left .0 → r ≡ powerAtOf c d
+    unfolding slowestOf
+    past-slowest r off more = off ∙ sym (power-at-past c d (omega (arith, ticks-left)))
 
     pub on-curve : s .left .0 ≤ 0 → At (s .power) ≡ powerAtOf c d
-    unfolding powerAtOf slowestOf powerOf slowedTo pick
+    unfolding slowestOf powerOf slowedTo
     on-curve none =
-        let within : d ≤ c .fastest .0 + ticksOf c = omega (arith, ticks-left) in
-        let used : min (d - c .fastest .0) (sum k (lengthAt c)) ≡ d - c .fastest .0 = omega (arith, all-ticks) in
-        rw (le-ltb d (c .fastest .0) from, le-ltb (c .fastest .0 + ticksOf c) d within, is, used)
+        let used : min (d - c .fastest .0) (sum k (lengthAt c)) ≡ d - c .fastest .0 = omega (arith, ticks-left, all-ticks) in
+        let within : powerAtOf c d ≡ At (record { 0 = powerOf c d }) = power-at-on c d from (omega (arith, ticks-left)) in
+        rw (within, is, used)
 
 -- ---- place_is_good and is_good
 both-same : (t : Bool) → t ≡ both t true

@@ -1,7 +1,6 @@
 -- What is asked of a curve, and its answers: the flat curve, the saving of a tick by its delay, the power at a delay or its refusal.
 -- Assumes nothing.
-use mathlib.Core.List.{List}
-use Prim.Native.Nat.{ℕ, _+_, _*_, _-_, min}
+use Prim.Native.Nat.{ℕ, _*_, _-_, min}
 use lib.Dec.{ltb, leb}
 use lib.ListN.{replicate}
 use Rattle.base.specs.Pick.{pick}
@@ -29,14 +28,13 @@ nextSavingOf c d = savingOf c (d - c .fastest .0)
 unfoldable pub lastSavingOf : Curve → ℕ → Last
 lastSavingOf c d = pick (leb d (c .fastest .0)) Unused (Saving (record { 0 = nextSavingOf c (d - 1) }))
 
--- "Power of a part at a delay"; refusal 19: "delay outside the part's curve", with "the delay" as its place
+-- refusal 19: "delay outside the part's curve", place: "the delay"
+abbrev pub offCurve : ℕ → Power
+offCurve d = Refused OffCurve d
+
+-- "Power of a part at a delay": its power there, from the fastest to the slowest
 unfoldable pub powerAtOf : Curve → ℕ → Power
-powerAtOf c d =
-    pick (ltb d (c .fastest .0))
-    (Refused OffCurve d)
-    (pick (ltb (slowestOf c) d)
-    (Refused OffCurve d)
-    (At (record { 0 = powerOf c d })))
+powerAtOf c d = pick (ltb d (c .fastest .0)) (offCurve d) (pick (ltb (slowestOf c) d) (offCurve d) (At (record { 0 = powerOf c d })))
 
 -- a run's ticks are used, as far as there are ticks left to use
 unfoldable pub usedOf : Slowing → Run → Slowing

@@ -5,7 +5,7 @@ use refusal::Why;
 ghost use mathlib.Core.Path.{_≡_};
 ghost use Prim.Native.Nat.{_*_, _-_, _<_, min};
 ghost use Rattle.curve.specs.Curve.{Good, slowestOf, savingsOf};
-ghost use Rattle.curve.specs.Answers.{flatOf, nextSavingOf, lastSavingOf, powerAtOf, usedOf};
+ghost use Rattle.curve.specs.Answers.{flatOf, nextSavingOf, lastSavingOf, offCurve, powerAtOf, usedOf};
 ghost use Rattle.curve.specs.Tests.{Sized, every, blankb, rangedb, placeb, goodb};
 
 // A count of ticks.
@@ -41,9 +41,9 @@ pub enum Last {
 }
 
 // A delay on its way along a curve: the ticks still to be used, and the power with those used so far.
-pub struct Slowing {
-    pub left: Ticks,
-    pub power: Microwatts,
+struct Slowing {
+    left: Ticks,
+    power: Microwatts,
 }
 
 // The lesser of two numbers.
@@ -70,6 +70,18 @@ fn less_saved(power: Microwatts, used: Ticks, saving: Microwatts) -> Microwatts
         return Microwatts(0);
     }
     Microwatts((all - saved) as u32)
+}
+
+impl Power {
+    // Refusal 19, with the delay as its place.
+    fn off_curve(delay: Ticks) -> Power
+        ensures { λ r. ⌜ r ≡ offCurve (delay .0) ⌝ }
+    {
+        Power::Refused {
+            why: Why::OffCurve,
+            place: delay.0 as usize,
+        }
+    }
 }
 
 impl Slowing {
@@ -211,32 +223,28 @@ impl Curve {
     pub fn power_at(self, delay: Ticks) -> Power
         ensures { λ r. ⌜ r ≡ powerAtOf self (delay .0) ⌝ }
     {
-        if delay.0 < self.fastest.0 {
-            return Power::Refused {
-                why: Why::OffCurve,
-                place: delay.0 as usize,
-            };
+        let fastest = self.fastest;
+        let refused = Power::off_curve(delay);
+        if delay.0 < fastest.0 {
+            return refused;
         }
         let n = lesser(self.count, Self::RUNS_MAX);
         let power = self.power;
         let mut slowing = Slowing {
-            left: Ticks(delay.0 - self.fastest.0),
+            left: Ticks(delay.0 - fastest.0),
             power,
         };
         let mut k: usize = 0;
         while k < n {
-            let run = self.runs[k];
-            slowing = slowing.used(run);
+            let next = self.runs[k];
+            slowing = slowing.used(next);
             k = k + 1;
         }
         if 0 < slowing.left.0 {
-            return Power::Refused {
-                why: Why::OffCurve,
-                place: delay.0 as usize,
-            };
+            return refused;
         }
-        let power = slowing.power;
-        Power::At(power)
+        let least = slowing.power;
+        Power::At(least)
     }
 
     // Whether place k holds a run in range that saves less than the run before it, or is blank past the last run.

@@ -1,3 +1,5 @@
+-- `curve::less_saved` meets its contract.
+-- Assumes nothing.
 use Rattle.curve.proofs.Ways.{product-fits}
 use borrow.Author.Needs.{needs}
 use Rattle.curve.proofs.less_saved.Statement.{statement}

@@ -1,3 +1,5 @@
+-- `curve::Curve::is_good` meets its contract.
+-- Assumes nothing.
 use mathlib.Core.Path.{_≡_}
 use lib.ListN.{length}
 use Rattle.base.specs.Pick.{pick}

@@ -1,3 +1,5 @@
+-- `curve::Curve::last_saving` meets its contract.
+-- Assumes nothing.
 use Rattle.curve.proofs.Ways.{none-used, one-used}
 use borrow.Author.Needs.{needs}
 use Rattle.curve.proofs.Curve.last_saving.Statement.{statement}

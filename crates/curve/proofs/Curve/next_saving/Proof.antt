@@ -1,3 +1,5 @@
+-- `curve::Curve::next_saving` meets its contract. The loop: the ticks left and those of the first k runs are the ticks past the fastest.
+-- Assumes nothing.
 use lib.ListN.{length}
 use mathlib.Core.Path.{_≡_}
 use Prim.Native.Nat.{_≤_, _+_, _-_}

@@ -1,3 +1,5 @@
+-- `curve::Curve::place_is_good` meets its contract.
+-- Assumes nothing.
 use Rattle.curve.proofs.Ways.{place-blank-way, place-unranged, place-first, place-later}
 use borrow.Author.Needs.{needs}
 use Rattle.curve.proofs.Curve.place_is_good.Statement.{statement}

@@ -1,3 +1,5 @@
+-- `curve::Slowing::used` meets its contract.
+-- Assumes nothing.
 use Rattle.curve.proofs.Ways.{used-way}
 use borrow.Author.Needs.{needs}
 use Rattle.curve.proofs.Slowing.used.Statement.{statement}
