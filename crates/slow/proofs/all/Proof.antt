@@ -1,0 +1,16 @@
+-- `slow::all` meets its contract.
+-- Assumes nothing.
+use Rattle.times.specs.Times.{table}
+use mathlib.Core.Path.{refl}
+use borrow.Author.Needs.{needs}
+use Rattle.slow.proofs.all.Statement.{statement}
+use Rattle.slow.proofs.all.Tie as tie
+use Rattle.slow.proofs.all.Reads as reads
+use Rattle.slow.proofs.all.Lts as lts
+
+returns : tie.Need-returns
+unfolding table
+returns c = refl
+
+pub all-spec : {M : Type 1} → statement M
+all-spec = tie.close (tie.spec returns)

@@ -1,0 +1,109 @@
+-- `slow::backs` meets its contract. The invariant: the steps back are those by the first k links.
+-- Assumes nothing.
+use Rattle.times.proofs.Loops.{scaled, from-below, to-below, arrival-fits}
+use Rattle.slow.proofs.Ways.{backs-none, backs-more, backs-done}
+use Rattle.slow.specs.Walk.{backsOf}
+use Prim.Native.Nat.{_≤_, _-_}
+use mathlib.Core.Path.{_≡_}
+use borrow.Author.Needs.{needs}
+use Rattle.slow.proofs.backs.Statement.{statement}
+use Rattle.slow.proofs.backs.Tie as tie
+use Rattle.slow.proofs.backs.Reads as reads
+use Rattle.slow.proofs.backs.Lts as lts
+use Rattle.slow.proofs.all.Reads as all-reads
+use Rattle.slow.proofs.awaited.Reads as awaited-reads
+use Rattle.slow.proofs.lesser.Reads as lesser-reads
+use Rattle.times.proofs.wire.Reads as wire-reads
+
+abbrev Inv-loop : tie.InvT-loop
+Inv-loop n link s e back₀ k₀ back k = (k ≤ n) × (back ≡ backsOf link s e k)
+
+abbrev μ-loop : tie.MeasureT-loop
+μ-loop n link s e back₀ k₀ back k = n - k
+
+all-requires : tie.Need-all-requires Inv-loop μ-loop
+all-requires c κs = search needs
+
+loop-holds : tie.Need-loop-holds Inv-loop μ-loop
+loop-holds c = (search needs, search (backs-none))
+
+mul-l : tie.Need-mul-l Inv-loop μ-loop
+mul-l c = search needs
+
+array-copy-out-l : tie.Need-array-copy-out-l Inv-loop μ-loop
+array-copy-out-l c = search needs
+
+mul-lesser : tie.Need-mul-lesser Inv-loop μ-loop
+mul-lesser c = search (scaled, from-below, to-below, needs)
+
+array-read-lesser : tie.Need-array-read-lesser Inv-loop μ-loop
+array-read-lesser c = search (scaled, from-below, to-below, needs)
+
+mul-awaited : tie.Need-mul-awaited Inv-loop μ-loop
+mul-awaited c = search (scaled, from-below, to-below, needs)
+
+array-read-awaited : tie.Need-array-read-awaited Inv-loop μ-loop
+array-read-awaited c = search (scaled, from-below, to-below, needs)
+
+wire-requires : tie.Need-wire-requires Inv-loop μ-loop
+wire-requires c κs = search needs
+
+add-awaited : tie.Need-add-awaited Inv-loop μ-loop
+add-awaited c = search (arrival-fits)
+
+mul-awaited-2 : tie.Need-mul-awaited-2 Inv-loop μ-loop
+mul-awaited-2 c = search (scaled, from-below, to-below, needs)
+
+array-read-awaited-2 : tie.Need-array-read-awaited-2 Inv-loop μ-loop
+array-read-awaited-2 c = search (scaled, from-below, to-below, needs)
+
+awaited-requires : tie.Need-awaited-requires Inv-loop μ-loop
+awaited-requires c κs = search needs
+
+lesser-requires : tie.Need-lesser-requires Inv-loop μ-loop
+lesser-requires c κs = search needs
+
+mul-back : tie.Need-mul-back Inv-loop μ-loop
+mul-back c = search (scaled, from-below, to-below, needs)
+
+array-write-back : tie.Need-array-write-back Inv-loop μ-loop
+array-write-back c = search (scaled, from-below, to-below, needs)
+
+add-k : tie.Need-add-k Inv-loop μ-loop
+add-k c = search needs
+
+loop-less : tie.Need-loop-less Inv-loop μ-loop
+loop-less c = search needs
+
+loop-again : tie.Need-loop-again Inv-loop μ-loop
+loop-again c = (search needs, search (backs-more))
+
+returns : tie.Need-returns Inv-loop μ-loop
+returns c = search (backs-done)
+
+pub backs-spec : {M : Type 1} → statement M
+backs-spec =
+    tie.close
+    (tie.spec
+    Inv-loop
+    μ-loop
+    all-requires
+    loop-holds
+    mul-l
+    array-copy-out-l
+    mul-lesser
+    array-read-lesser
+    mul-awaited
+    array-read-awaited
+    wire-requires
+    add-awaited
+    mul-awaited-2
+    array-read-awaited-2
+    awaited-requires
+    lesser-requires
+    mul-back
+    array-write-back
+    add-k
+    loop-less
+    loop-again
+    returns)
