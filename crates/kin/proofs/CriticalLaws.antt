@@ -1,7 +1,7 @@
 -- What it is to be critical, in 01's words: a link of the board whose first part's end, and what the link takes, is the start of its second part.
 -- Assumes nothing.
-use mathlib.Core.Path.{_≡_, sym, _∙_}
-use mathlib.Core.Bool.{Bool, true}
+use mathlib.Core.Path.{_≡_}
+use mathlib.Core.Bool.{true}
 use mathlib.Core.List.{List}
 use Prim.Native.Nat.{ℕ, _+_, _<_, min}
 use native.Mathlib.Omega.{arith}
@@ -58,3 +58,9 @@ module _ (b : Board) (start end : List ℕ) where
         meets = rw (l .from, l .to) meets;
       } in
       record { link = l .link; from = l .from; to = l .to; critical = critical-at (l .link) (omega (arith, l .here, ok .links-to)) (meets-critical start end (linkAt b (l .link)) m) }
+
+  -- a critical link of a well formed board joins its parts
+  pub critical-in : WellFormed b → (p q : ℕ) → Critical b start end p q → (p < b .parts) × (q < b .parts)
+  critical-in ok p q c =
+      let l : Linked b p q = critical-linked p q c in
+      (omega (arith, ok .from-in (l .link) (l .here), l .from), omega (arith, ok .to-in (l .link) (l .here), l .to))

@@ -3,7 +3,7 @@
 use mathlib.Core.Path.{_≡_, refl}
 use mathlib.Core.Bool.{true}
 use mathlib.Core.List.{List}
-use Prim.Native.Nat.{ℕ, zero, suc, _<_, _^_}
+use Prim.Native.Nat.{ℕ, zero, suc, _<_}
 use native.Mathlib.Omega.{arith}
 use lib.Dec.{lit<}
 use Rattle.base.specs.Pick.{pick}
@@ -16,7 +16,7 @@ use Rattle.board.specs.Board.{linkAt}
 use Rattle.times.specs.Times.{wireOf}
 use Rattle.kin.specs.declared.Kin.{Kin}
 use Rattle.kin.specs.Critical.{criticalb, criticalAt, Critical}
-use Rattle.kin.specs.Kin.{Within, Closed, KinOf}
+use Rattle.kin.specs.Kin.{Closed, KinOf}
 use Rattle.kin.proofs.CriticalLaws.{at-critical}
 use Rattle.kin.proofs.KinLaws.{kin-once}
 

@@ -1,12 +1,12 @@
 -- Parents and children: there is one such pair of sets, and without a critical link from the first part it is that part alone and nothing.
 -- Assumes nothing.
-use mathlib.Core.Path.{_≡_, sym, ap, _∙_}
+use mathlib.Core.Path.{_≡_, ap, _∙_}
 use mathlib.Core.Logic.{_≢_, ⊎-elim}
 use mathlib.Core.List.{List}
-use Prim.Native.Nat.{ℕ, _≤_, _<_, _^_}
+use Prim.Native.Nat.{ℕ, _≤_, _<_}
 use native.Mathlib.Omega.{arith}
 use lib.Dec.{lit<}
-use lib.ListN.{getD}
+use Rattle.base.proofs.Cases.{lt-or-le}
 use Rattle.marks.specs.Marks.{bit, oneOf, removeOf}
 use Rattle.marks.proofs.Bits.{bit-lt, bit-or-not, bit-without, bit-one-same, one-fits, mark-below, remove-same, remove-other, same-marks}
 use Rattle.board.specs.declared.Board.{Board}
@@ -79,6 +79,35 @@ module _ (Leads : ℕ → ℕ → Type 0) (first : ℕ) where
           parent = λ n q h l. remove-other (k .parents) r n (λ e. none q h (rw e l)) ∙ x .closed .parent n q h l;
         } in
         gone (k .parents) r part (x .least-parents (removeOf (k .parents) r) (k .children) without)
+
+    -- what critical links join is below m, and so is all kin of a part below m
+    module _ (m : ℕ) (part : first < m) (below : (r q : ℕ) → Leads r q → (r < m) × (q < m)) where
+      pub parents-below : (n : ℕ) → bit (k .parents) n ≡ 1 → n < m
+      parents-below n h =
+          ⊎-elim
+          (λ l. l)
+          (λ past. absurd (omega (arith, no-child-no-parent n (mark-below (k .parents) n (x .parents-fit) h) (λ e. omega arith) (λ q g l. omega (arith, below n q l .0)))))
+          (lt-or-le n m)
+
+      pub children-below : (n : ℕ) → bit (k .children) n ≡ 1 → n < m
+      children-below n h =
+          ⊎-elim
+          (λ l. l)
+          (λ past. absurd (omega (arith, no-parent-no-child n (mark-below (k .children) n (x .children-fit) h) (λ r g l. omega (arith, below r n l .1)))))
+          (lt-or-le n m)
+
+  -- a first part of 64 or more has no kin
+  pub kin-past : 64 ≤ first → (k : Kin) → KinOf Leads first k → k ≡ record { parents = 0; children = 0 }
+  kin-past past k x =
+      let nothing : Closed Leads first 0 0 = record { begin = λ h. absurd (omega arith); child = λ r q h l. absurd (none-in r h); parent = λ r q h l. absurd (none-in q h) } in
+      kin-once k (record { parents = 0; children = 0 }) x
+      (record {
+        parents-fit = lit< tt;
+        children-fit = lit< tt;
+        closed = nothing;
+        least-parents = λ s t c n h. absurd (none-in n h);
+        least-children = λ s t c n h. absurd (none-in n h);
+      })
 
 -- ---- `kin_of`: what grows from the first part alone over the critical links
 module _ (b : Board) (start end : List ℕ) (p o : ℕ) (t : Rows) (k : Kin) (rows : CriticalRows b start end t) (one : o ≡ oneOf p) where

@@ -1,21 +1,21 @@
 -- Rows of marks: bit q of row p is set exactly where a link that passes the test leads from p to q. Once for both directions.
 -- Assumes nothing.
-use mathlib.Core.Path.{_≡_, refl, sym, _∙_}
+use mathlib.Core.Path.{_≡_, refl, sym, ap, _∙_}
 use mathlib.Core.Logic.{_≢_, ⊎-elim}
 use mathlib.Core.Bool.{Bool, true, false}
 use mathlib.Core.List.{List}
 use Prim.Native.Nat.{ℕ, zero, suc, _≤_, _<_, _^_, min}
 use native.Mathlib.Omega.{arith}
 use lib.ListN.{length, getD, set, replicate, length-replicate, length-set}
-use lib.Seq.{getD-set-same, getD-set-other}
+use lib.Seq.{ext-getD, getD-set-same, getD-set-other}
 use lib.Dec.{lit<}
 use Rattle.base.proofs.Cases.{lt-or-le, eq-or-ne, finished}
 use Rattle.marks.specs.Marks.{bit, insertOf, Exactly}
-use Rattle.marks.proofs.Bits.{bit-none, insert-same, insert-other, insert-keeps, insert-fits}
+use Rattle.marks.proofs.Bits.{bit-none, insert-same, insert-other, insert-keeps, insert-fits, exactly-once}
 use Rattle.board.specs.declared.Board.{Board}
 use Rattle.board.specs.Board.{linkAt}
 use Rattle.kin.specs.declared.Rows.{Rows}
-use Rattle.kin.specs.Critical.{criticalb, criticalAt, Critical, CriticalRows}
+use Rattle.kin.specs.Critical.{criticalb, Critical, CriticalRows}
 use Rattle.kin.specs.Steps.{noMarks, markedOf, marksUpTo, rowsUpTo}
 use Rattle.kin.proofs.Ways.{not-marked, marked-past, marked-put}
 use Rattle.kin.proofs.CriticalLaws.{Meets, critical-meets, critical-at, at-critical}
@@ -109,6 +109,16 @@ module _ (test : ℕ → Bool) (from to : ℕ → ℕ) where
   entry-mark (suc k) i h passes f t =
       ⊎-elim (λ new. rw (← new) (mark-made i passes f t)) (λ ne. mark-stays k (from i) (to i) (entry-mark k i (omega arith) passes f t)) (eq-or-ne i k)
 
+-- ---- rows of the same marks are the same
+rows-same : (R : ℕ → ℕ → Type 0) (a c : List ℕ) → length a ≡ 64 → length c ≡ 64 → ((p : ℕ) → Exactly (R p) (getD a p 0)) → ((p : ℕ) → Exactly (R p) (getD c p 0)) → a ≡ c
+rows-same R a c ra rc ea ec = ext-getD 0 a c (ra ∙ sym rc) (λ p h. exactly-once (R p) (getD a p 0) (getD c p 0) (ea p) (ec p))
+
+pub rows-once : (b : Board) (start end : List ℕ) (t u : Rows) → CriticalRows b start end t → CriticalRows b start end u → t ≡ u
+rows-once b start end t u x y =
+    let down : t .down ≡ u .down = rows-same (λ p q. Critical b start end p q) (t .down) (u .down) (x .down-room) (y .down-room) (x .down) (y .down) in
+    let up : t .up ≡ u .up = rows-same (λ q p. Critical b start end p q) (t .up) (u .up) (x .up-room) (y .up-room) (x .up) (y .up) in
+    ap (λ (r : List ℕ). record { down = r; up = t .up }) down ∙ ap (λ (r : List ℕ). record { down = u .down; up = r }) up
+
 -- ---- the rows of a board
 module _ (b : Board) (start end : List ℕ) where
   abbrev passes : ℕ → Bool
@@ -146,7 +156,9 @@ module _ (b : Board) (start end : List ℕ) where
   }
 
   pub rows-critical : CriticalRows b start end (rowsUpTo b start end all)
-  rows-critical = record { down = down-is; up = up-is }
+  unfolding rowsUpTo
+  rows-critical =
+      record { down = down-is; up = up-is; down-room = marks-room passes first second all; up-room = marks-room passes second first all }
 
   pub rows-done : (t : Rows) (k n : ℕ) → n ≡ min (b .links) 256 → k ≤ n → n ≤ k → t ≡ rowsUpTo b start end k → CriticalRows b start end t
   rows-done t k n e l h is = let done : t ≡ rowsUpTo b start end n = finished (rowsUpTo b start end) l h is in rw (done, e) rows-critical

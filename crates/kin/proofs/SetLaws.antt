@@ -2,11 +2,11 @@
 -- Assumes nothing.
 use mathlib.Core.Path.{_≡_, sym, _∙_}
 use mathlib.Core.Logic.{⊎-elim}
-use Prim.Native.Nat.{ℕ, _-_, _^_, _≤_, _<_}
+use Prim.Native.Nat.{ℕ, _-_, _^_, _<_}
 use native.Mathlib.Omega.{arith}
 use lib.Count.{ones}
 use Rattle.base.proofs.Cases.{eq-or-ne}
-use Rattle.marks.specs.Marks.{bit, oneOf, unionOf, withoutOf, lowestOf}
+use Rattle.marks.specs.Marks.{bit, oneOf, withoutOf, lowestOf}
 use Rattle.marks.proofs.Bits.{bit-lt, bit-none, bit-or-not, bit-one-other, bit-without, without-fits, same-marks}
 use Rattle.marks.proofs.Counts.{ones-less, lowest-is}
 use Rattle.kin.specs.Kin.{Within}

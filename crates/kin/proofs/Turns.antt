@@ -1,19 +1,17 @@
 -- The two steps. What a step gathers is the least set that holds what it was given and all that the marked rows lead to; where that is
 -- nothing new, both sets are closed, and else the other step goes on with fewer parts unmarked.
 -- Assumes nothing.
-use mathlib.Core.Path.{_≡_, refl, sym, _∙_}
+use mathlib.Core.Path.{_≡_, _∙_}
 use mathlib.Core.Logic.{⊎-elim}
-use mathlib.Core.Bool.{Bool, true, false}
 use mathlib.Core.List.{List}
-use Prim.Native.Nat.{ℕ, zero, suc, _+_, _-_, _≤_, _<_, _^_, max}
+use Prim.Native.Nat.{ℕ, zero, suc, _<_, _^_}
 use native.Mathlib.Omega.{arith}
 use mir.Syntax.{w64}
 use mir.Val.{Fits}
-use lib.Count.{ones}
 use lib.ListN.{getD}
-use borrow.Author.Tests.{eq-eqb, eqb-true, ne-eqb}
+use borrow.Author.Tests.{eq-eqb, ne-eqb}
 use Rattle.base.specs.Pick.{pick}
-use Rattle.base.proofs.Cases.{lt-or-le, eq-or-ne}
+use Rattle.base.proofs.Cases.{eq-or-ne}
 use Rattle.marks.specs.Marks.{bit, hasOf, unionOf}
 use Rattle.marks.proofs.Bits.{bit-lt, bit-or-not, bit-union, mark-below}
 use Rattle.marks.proofs.Counts.{ones-to}

@@ -5,7 +5,7 @@ use mathlib.Core.Bool.{Bool, true}
 use mathlib.Core.List.{List}
 use Prim.Native.Nat.{ℕ, _+_, min}
 use lib.Dec.{ltb, eqb}
-use lib.ListN.{getD}
+use lib.ListN.{length, getD}
 use Rattle.theory.specs.Sum.{cells}
 use Rattle.marks.specs.Marks.{Exactly}
 use Rattle.curve.specs.Tests.{both}
@@ -35,3 +35,5 @@ pub record Critical (b : Board) (start end : List ℕ) (p q : ℕ) : Type 0 wher
 pub record CriticalRows (b : Board) (start end : List ℕ) (t : Rows) : Type 0 where
   pub down : (p : ℕ) → Exactly (λ q. Critical b start end p q) (getD (t .down) p 0)
   pub up : (q : ℕ) → Exactly (λ p. Critical b start end p q) (getD (t .up) q 0)
+  pub down-room : length (t .down) ≡ 64
+  pub up-room : length (t .up) ≡ 64

@@ -146,8 +146,8 @@ fn gathered(rows: [u64; 64], seen: u64, set: u64) -> u64
 fn child_step(t: Rows, parents: u64, children: u64) -> Kin
     ensures { λ r. ⌜ (Led (t .up) children parents → Grown t parents children r) ⌝ }
 {
-    let down = t.down;
-    let next = gathered(down, parents, children);
+    let rows = t.down;
+    let next = gathered(rows, parents, children);
     if next == children {
         return Kin {
             parents: parents,
@@ -161,8 +161,8 @@ fn child_step(t: Rows, parents: u64, children: u64) -> Kin
 fn parent_step(t: Rows, parents: u64, children: u64) -> Kin
     ensures { λ r. ⌜ (Led (t .down) parents children → Grown t parents children r) ⌝ }
 {
-    let up = t.up;
-    let next = gathered(up, children, parents);
+    let rows = t.up;
+    let next = gathered(rows, children, parents);
     if next == parents {
         return Kin {
             parents: parents,

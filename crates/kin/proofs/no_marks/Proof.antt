@@ -1,7 +1,6 @@
 -- `no_marks` meets its contract.
 -- Assumes nothing.
 use Rattle.kin.proofs.Ways.{none-marked}
-use borrow.Author.Needs.{needs}
 use Rattle.kin.proofs.no_marks.Statement.{statement}
 use Rattle.kin.proofs.no_marks.Tie as tie
 
