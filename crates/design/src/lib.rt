@@ -1,0 +1,1 @@
+// A design file, read and written.

@@ -1,0 +1,35 @@
+use Rattle.base.specs.Pick.{pick}
+use Rattle.base.proofs.Tests.{tests}
+use Rattle.curve.specs.Curve.{savingAt}
+use Rattle.fields.specs.CurveFile.{falls}
+use borrow.Author.Needs.{needs}
+use Rattle.fields.proofs.is_below.Statement.{statement}
+use Rattle.fields.proofs.is_below.Tie as tie
+use Rattle.fields.proofs.is_below.Reads as reads
+use Rattle.fields.proofs.is_below.Lts as lts
+
+-- src/lib.rt:82:9
+returns : tie.Need-returns
+unfolding falls savingAt pick
+returns c = search tests
+
+-- src/lib.rt:84:25
+sub-before : tie.Need-sub-before
+sub-before c = search needs
+
+-- src/lib.rt:84:18
+mul-before : tie.Need-mul-before
+mul-before c = search needs
+
+-- src/lib.rt:84:18
+element-copy-out-before : tie.Need-element-copy-out-before
+element-copy-out-before c = search needs
+
+-- src/lib.rt:77:1
+returns-2 : tie.Need-returns-2
+unfolding falls savingAt pick
+returns-2 c = search tests
+
+pub is-below-spec : {M : Type 1} → statement M
+is-below-spec =
+    tie.close (tie.spec returns sub-before mul-before element-copy-out-before returns-2)
