@@ -1,2 +1,4 @@
 pub mod Ways
 pub mod Writers
+pub mod OrderLaws
+pub mod Kept
