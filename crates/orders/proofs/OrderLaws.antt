@@ -26,8 +26,7 @@ use Rattle.fields.proofs.CurveFileLaws.{curve-good, curve-next, curve-writes-ba
 use Rattle.orders.specs.declared.Change.{Change}
 use Rattle.orders.specs.declared.Change.the-variants.{Deadline, AddLink, RemoveLink, NewCurve}
 use Rattle.orders.specs.declared.Order.{Order}
-use Rattle.orders.specs.Order.{plainly, partAt, deadlineFrom, linkFrom, newCurveFrom, kindFrom, orderOf}
-use Rattle.orders.specs.Order as order
+use Rattle.orders.specs.Order.{plainly, partAt, deadlineFrom, linkFrom, newCurveFrom, kindFrom, orderOf, Ends, InRange, Orderly, changeBytes, orderBytes}
 
 -- a reading that went one of two ways
 pick-either : {A : Type 0} (t : Bool) (p q : Parse A) (a : A) (n : ℕ) (Q : Type 0) → pick t p q ≡ got a n → (t ≡ true → p ≡ got a n → Q) → (t ≡ false → q ≡ got a n → Q) → Q
@@ -92,88 +91,99 @@ module _ (s : List ℕ) (P : Order → ℕ → Type 0) where
         let k = then-got (number (numberAt s 0)) (kindFrom s) o n is in
         by-kind (k .value) (k .place) (number-once (numberAt s 0) (Number (k .value) (k .place)) (k .first)) o n (k .rest)
 
+-- ---- both ends of a link that were read
+module _ (s : List ℕ) (at from at₁ to n : ℕ) (is : partAt s at ≡ got from at₁) (is₁ : partAt s at₁ ≡ got to n) where
+  ends-read : Ends from to
+  ends-read = record { from-to = field-got s 0 63 at from at₁ is .to; to-to = field-got s 0 63 at₁ to n is₁ .to }
+
+  ends-stand : (kind : ℕ) → Bytes s → numberAt s 0 ≡ Number kind at → Stands s 0 (encode kind ++ (encode from ++ encode to)) n
+  ends-stand kind bytes read = stands-join (number-stands s 0 kind at bytes read) (stands-join (field-stands s 0 63 at from at₁ bytes is) (field-stands s 0 63 at₁ to n bytes is₁))
+
 -- ---- every order that was read is in its ranges
-pub order-orderly : (s : List ℕ) (o : Order) (n : ℕ) → orderOf s ≡ got o n → order.Orderly o
-unfolding order.Orderly
-order-orderly s = by-order s (λ o n. order.Orderly o)
-    (λ at kind d n is. let d-in = field-got s 1 4095 at d n is in (d-in .from, d-in .to, refl))
-    (λ at kind from at₁ to n is is₁. (field-got s 0 63 at from at₁ is .to, field-got s 0 63 at₁ to n is₁ .to, refl))
-    (λ at kind from at₁ to n is is₁. (field-got s 0 63 at from at₁ is .to, field-got s 0 63 at₁ to n is₁ .to, refl))
+pub order-orderly : (s : List ℕ) (o : Order) (n : ℕ) → orderOf s ≡ got o n → Orderly o
+unfolding Orderly
+order-orderly s = by-order s (λ o n. Orderly o)
+    (λ at kind d n is. let known = field-got s 1 4095 at d n is in (known .from, known .to, refl))
+    (λ at kind from at₁ to n is is₁. (ends-read s at from at₁ to n is is₁, refl))
+    (λ at kind from at₁ to n is is₁. (ends-read s at from at₁ to n is is₁, refl))
     (λ at kind part at₁ c n is is₁. (field-got s 0 63 at part at₁ is .to, curve-good s at₁ c n is₁))
 
 -- "the answer gives the bytes it took": some, and no more than there are
-abbrev Took : List ℕ → ℕ → Type 0
-Took s n = (0 < n) × (n ≤ length s)
+past : (s : List ℕ) (at n : ℕ) → (at < n) × (n ≤ length s) → (0 < n) × (n ≤ length s)
+past s at n next = (omega (arith, next .0), next .1)
 
 pub order-took : (s : List ℕ) (o : Order) (n : ℕ) → orderOf s ≡ got o n → (0 < n) × (n ≤ length s)
-order-took s = by-order s (λ o n. Took s n)
-    (λ at kind d n is. let last = field-next s 1 4095 at d n is in (omega (arith, last .0), last .1))
-    (λ at kind from at₁ to n is is₁. let last = field-next s 0 63 at₁ to n is₁ in (omega (arith, last .0), last .1))
-    (λ at kind from at₁ to n is is₁. let last = field-next s 0 63 at₁ to n is₁ in (omega (arith, last .0), last .1))
-    (λ at kind part at₁ c n is is₁. let last = curve-next s at₁ c n is₁ in (omega (arith, last .0), last .1))
+order-took s = by-order s (λ o n. (0 < n) × (n ≤ length s))
+    (λ at kind d n is. past s at n (field-next s 1 4095 at d n is))
+    (λ at kind from at₁ to n is is₁. past s at₁ n (field-next s 0 63 at₁ to n is₁))
+    (λ at kind from at₁ to n is is₁. past s at₁ n (field-next s 0 63 at₁ to n is₁))
+    (λ at kind part at₁ c n is is₁. past s at₁ n (curve-next s at₁ c n is₁))
 
 -- ---- what is read is rewritten byte for byte
-pub order-stands : (s : List ℕ) → Bytes s → (o : Order) (n : ℕ) → orderOf s ≡ got o n → Stands s 0 (order.orderBytes o) n
-unfolding order.orderBytes
-order-stands s bytes = by-order s (λ o n. Stands s 0 (order.orderBytes o) n)
+pub order-stands : (s : List ℕ) → Bytes s → (o : Order) (n : ℕ) → orderOf s ≡ got o n → Stands s 0 (orderBytes o) n
+unfolding orderBytes
+order-stands s bytes = by-order s (λ o n. Stands s 0 (orderBytes o) n)
     (λ at kind d n is. stands-join (number-stands s 0 1 at bytes kind) (field-stands s 1 4095 at d n bytes is))
-    (λ at kind from at₁ to n is is₁. stands-join (number-stands s 0 2 at bytes kind) (stands-join (field-stands s 0 63 at from at₁ bytes is) (field-stands s 0 63 at₁ to n bytes is₁)))
-    (λ at kind from at₁ to n is is₁. stands-join (number-stands s 0 3 at bytes kind) (stands-join (field-stands s 0 63 at from at₁ bytes is) (field-stands s 0 63 at₁ to n bytes is₁)))
+    (λ at kind from at₁ to n is is₁. ends-stand s at from at₁ to n is is₁ 2 bytes kind)
+    (λ at kind from at₁ to n is is₁. ends-stand s at from at₁ to n is is₁ 3 bytes kind)
     (λ at kind part at₁ c n is is₁. stands-join (number-stands s 0 4 at bytes kind) (stands-join (field-stands s 0 63 at part at₁ bytes is) (curve-writes-back s at₁ c n bytes is₁)))
 
-pub order-writes-back : (s : List ℕ) (o : Order) (n : ℕ) → Bytes s → orderOf s ≡ got o n → take n s ≡ order.orderBytes o
+pub order-writes-back : (s : List ℕ) (o : Order) (n : ℕ) → Bytes s → orderOf s ≡ got o n → take n s ≡ orderBytes o
 order-writes-back s o n bytes is =
     let x = order-stands s bytes o n is in
-    let here : s ≡ order.orderBytes o ++ x .after = x .here in
-    let long : length (order.orderBytes o) ≡ n = sym (x .ends ∙ zero-add (length (order.orderBytes o))) in
-    ap (take n) here ∙ take-at (order.orderBytes o) (x .after) n long
+    let here : s ≡ orderBytes o ++ x .after = x .here in
+    let long : length (orderBytes o) ≡ n = sym (x .ends ∙ zero-add (length (orderBytes o))) in
+    ap (take n) here ∙ take-at (orderBytes o) (x .after) n long
 
 -- ---- an order in its ranges is read back, whatever follows it
 module _ (s : List ℕ) (n : ℕ) (c : Curve) where
   abbrev Back : Change → Type 0
-  Back change = order.Ranged change c → Stands s 0 (order.changeBytes change c) n → orderOf s ≡ got (record { change = change; curve = c }) n
+  Back change = InRange change c → Stands s 0 (changeBytes change c) n → orderOf s ≡ got (record { change = change; curve = c }) n
+
+  link-reads : (change : ℕ → ℕ → Change) (at from to : ℕ) → Ends from to → Stands s at (encode from ++ encode to) n → linkFrom change s at ≡ got (plainly (change from to)) n
+  unfolding linkFrom and-then
+  link-reads change at from to ends x = rw (
+    field-reads-back 0 63 from (omega arith) (omega arith) (ends .from-to) (stands-first (encode from) (encode to) x),
+    field-reads-back 0 63 to (omega arith) (omega arith) (ends .to-to) (stands-then (encode from) (encode to) x),
+  )
 
   change-reads : (change : Change) → Back change
-  unfolding orderOf kindFrom deadlineFrom linkFrom newCurveFrom and-then pick
+  unfolding orderOf kindFrom deadlineFrom newCurveFrom and-then pick
   change-reads (Deadline d) in-range x =
-      let k = encode 1 in
+      let w = encode (d .0) in
       rw (
-        number-reads 1 (omega arith) (stands-first k (encode (d .0)) x),
-        field-reads-back 1 4095 (d .0) (omega arith) (in-range .0) (in-range .1) (stands-then k (encode (d .0)) x),
+        number-reads 1 (omega arith) (stands-first (encode 1) w x),
+        field-reads-back 1 4095 (d .0) (omega arith) (in-range .0) (in-range .1) (stands-then (encode 1) w x),
         in-range .2,
       )
   change-reads (AddLink from to) in-range x =
-      let k = encode 2 in
-      let x₁ = stands-then k (encode from ++ encode to) x in
+      let w = encode from ++ encode to in
       rw (
-        number-reads 2 (omega arith) (stands-first k (encode from ++ encode to) x),
-        field-reads-back 0 63 from (omega arith) (omega arith) (in-range .0) (stands-first (encode from) (encode to) x₁),
-        field-reads-back 0 63 to (omega arith) (omega arith) (in-range .1) (stands-then (encode from) (encode to) x₁),
-        in-range .2,
+        number-reads 2 (omega arith) (stands-first (encode 2) w x),
+        link-reads AddLink _ from to (in-range .0) (stands-then (encode 2) w x),
+        in-range .1,
       )
   change-reads (RemoveLink from to) in-range x =
-      let k = encode 3 in
-      let x₁ = stands-then k (encode from ++ encode to) x in
+      let w = encode from ++ encode to in
       rw (
-        number-reads 3 (omega arith) (stands-first k (encode from ++ encode to) x),
-        field-reads-back 0 63 from (omega arith) (omega arith) (in-range .0) (stands-first (encode from) (encode to) x₁),
-        field-reads-back 0 63 to (omega arith) (omega arith) (in-range .1) (stands-then (encode from) (encode to) x₁),
-        in-range .2,
+        number-reads 3 (omega arith) (stands-first (encode 3) w x),
+        link-reads RemoveLink _ from to (in-range .0) (stands-then (encode 3) w x),
+        in-range .1,
       )
   change-reads (NewCurve part) in-range x =
-      let k = encode 4 in
-      let x₁ = stands-then k (encode part ++ curveBytes c) x in
+      let w = encode part ++ curveBytes c in
+      let x₁ = stands-then (encode 4) w x in
       rw (
-        number-reads 4 (omega arith) (stands-first k (encode part ++ curveBytes c) x),
+        number-reads 4 (omega arith) (stands-first (encode 4) w x),
         field-reads-back 0 63 part (omega arith) (omega arith) (in-range .0) (stands-first (encode part) (curveBytes c) x₁),
         curve-reads-back s _ c n (in-range .1) (stands-then (encode part) (curveBytes c) x₁),
       )
 
-pub order-reads : (s : List ℕ) (o : Order) (n : ℕ) → order.Orderly o → Stands s 0 (order.orderBytes o) n → orderOf s ≡ got o n
-unfolding order.Orderly order.orderBytes
+pub order-reads : (s : List ℕ) (o : Order) (n : ℕ) → Orderly o → Stands s 0 (orderBytes o) n → orderOf s ≡ got o n
+unfolding Orderly orderBytes
 order-reads s o n orderly x = change-reads s n (o .curve) (o .change) orderly x
 
-pub order-reads-back : (o : Order) (post : List ℕ) → order.Orderly o → orderOf (order.orderBytes o ++ post) ≡ got o (length (order.orderBytes o))
+pub order-reads-back : (o : Order) (post : List ℕ) → Orderly o → orderOf (orderBytes o ++ post) ≡ got o (length (orderBytes o))
 order-reads-back o post orderly =
-    order-reads (order.orderBytes o ++ post) o (length (order.orderBytes o)) orderly
-    (record { after = post; here = refl; ends = sym (zero-add (length (order.orderBytes o))) })
+    order-reads (orderBytes o ++ post) o (length (orderBytes o)) orderly
+    (record { after = post; here = refl; ends = sym (zero-add (length (orderBytes o))) })

@@ -69,15 +69,20 @@ orderRead (got o next) = record { answer = Done; took = next; order = o }
 orderRead (stop why place) = record { answer = Refused why place; took = 0; order = plainly (Deadline (record { 0 = 0 })) }
 
 -- ---- orders in their ranges
--- "Deadline: 1 to 4,095 ticks"; "part numbers 0 to 63"; a curve as 01 asks it to be, and only a change of a curve brings one
-abbrev pub Ranged : Change → Curve → Type 0
-Ranged (Deadline d) c = (1 ≤ d .0) × (d .0 ≤ 4095) × (c ≡ blankCurve)
-Ranged (AddLink from to) c = (from ≤ 63) × (to ≤ 63) × (c ≡ blankCurve)
-Ranged (RemoveLink from to) c = (from ≤ 63) × (to ≤ 63) × (c ≡ blankCurve)
-Ranged (NewCurve part) c = (part ≤ 63) × Good c
+-- "part numbers 0 to 63"
+pub record Ends (from to : ℕ) : Type 0 where
+  pub from-to : from ≤ 63
+  pub to-to : to ≤ 63
+
+-- "Deadline: 1 to 4,095 ticks"; a new curve is as 01 asks it to be, and no other change brings one
+abbrev pub InRange : Change → Curve → Type 0
+InRange (Deadline d) c = (1 ≤ d .0) × (d .0 ≤ 4095) × (c ≡ blankCurve)
+InRange (AddLink from to) c = Ends from to × (c ≡ blankCurve)
+InRange (RemoveLink from to) c = Ends from to × (c ≡ blankCurve)
+InRange (NewCurve part) c = (part ≤ 63) × Good c
 
 unfoldable pub Orderly : Order → Type 0
-Orderly o = Ranged (o .change) (o .curve)
+Orderly o = InRange (o .change) (o .curve)
 
 -- ---- the bytes of an order
 abbrev pub changeBytes : Change → Curve → List ℕ
