@@ -12,6 +12,8 @@ use lib.ListN.{length, take}
 use lib.Seq.{take-at}
 use borrow.Author.Tests.{eqb-true}
 use Rattle.base.specs.Pick.{pick}
+use Rattle.refusal.specs.declared.Why.{Why}
+use Rattle.refusal.specs.declared.Answer.the-variants.{Done, Refused}
 use Rattle.groups.specs.declared.Read.the-variants.{Number}
 use Rattle.groups.specs.Number.{numberAt, encode}
 use Rattle.groups.proofs.RoundTrip.{number-next, Bytes}
@@ -26,7 +28,17 @@ use Rattle.fields.proofs.CurveFileLaws.{curve-good, curve-next, curve-writes-ba
 use Rattle.orders.specs.declared.Change.{Change}
 use Rattle.orders.specs.declared.Change.the-variants.{Deadline, AddLink, RemoveLink, NewCurve}
 use Rattle.orders.specs.declared.Order.{Order}
-use Rattle.orders.specs.Order.{plainly, partAt, deadlineFrom, linkFrom, newCurveFrom, kindFrom, orderOf, Ends, InRange, Orderly, changeBytes, orderBytes}
+use Rattle.orders.specs.declared.OrderRead.{OrderRead}
+use Rattle.orders.specs.Order.{plainly, partAt, deadlineFrom, linkFrom, newCurveFrom, kindFrom, orderOf, orderRead, Ends, InRange, Orderly, changeBytes, orderBytes}
+
+-- ---- what the reader's answer stands for
+pub order-done : (p : Parse Order) (r : OrderRead) → r ≡ orderRead p → r .answer ≡ Done → p ≡ got (r .order) (r .took)
+order-done (got o n) r e d = rw e
+order-done (stop why place) r e d = let z : _≡_ {A = ℕ} 0 1 = cc in absurd (omega arith)
+
+pub order-stopped : (p : Parse Order) (r : OrderRead) (why : Why) (place : ℕ) → r ≡ orderRead p → r .answer ≡ Refused why place → p ≡ stop why place
+order-stopped (got o n) r why place e d = let z : _≡_ {A = ℕ} 0 1 = cc in absurd (omega arith)
+order-stopped (stop w q) r why place e d = let f : Refused w q ≡ Refused why place = sym (ap (λ (x : OrderRead). x .answer) e) ∙ d in cc
 
 -- a reading that went one of two ways
 pick-either : {A : Type 0} (t : Bool) (p q : Parse A) (a : A) (n : ℕ) (Q : Type 0) → pick t p q ≡ got a n → (t ≡ true → p ≡ got a n → Q) → (t ≡ false → q ≡ got a n → Q) → Q
@@ -94,7 +106,7 @@ module _ (s : List ℕ) (P : Order → ℕ → Type 0) where
 -- ---- both ends of a link that were read
 module _ (s : List ℕ) (at from at₁ to n : ℕ) (is : partAt s at ≡ got from at₁) (is₁ : partAt s at₁ ≡ got to n) where
   ends-read : Ends from to
-  ends-read = record { from-to = field-got s 0 63 at from at₁ is .to; to-to = field-got s 0 63 at₁ to n is₁ .to }
+  ends-read = record { from-in = field-got s 0 63 at from at₁ is .to; to-in = field-got s 0 63 at₁ to n is₁ .to }
 
   ends-stand : (kind : ℕ) → Bytes s → numberAt s 0 ≡ Number kind at → Stands s 0 (encode kind ++ (encode from ++ encode to)) n
   ends-stand kind bytes read = stands-join (number-stands s 0 kind at bytes read) (stands-join (field-stands s 0 63 at from at₁ bytes is) (field-stands s 0 63 at₁ to n bytes is₁))
@@ -143,8 +155,8 @@ module _ (s : List ℕ) (n : ℕ) (c : Curve) where
   link-reads : (change : ℕ → ℕ → Change) (at from to : ℕ) → Ends from to → Stands s at (encode from ++ encode to) n → linkFrom change s at ≡ got (plainly (change from to)) n
   unfolding linkFrom and-then
   link-reads change at from to ends x = rw (
-    field-reads-back 0 63 from (omega arith) (omega arith) (ends .from-to) (stands-first (encode from) (encode to) x),
-    field-reads-back 0 63 to (omega arith) (omega arith) (ends .to-to) (stands-then (encode from) (encode to) x),
+    field-reads-back 0 63 from (omega arith) (omega arith) (ends .from-in) (stands-first (encode from) (encode to) x),
+    field-reads-back 0 63 to (omega arith) (omega arith) (ends .to-in) (stands-then (encode from) (encode to) x),
   )
 
   change-reads : (change : Change) → Back change

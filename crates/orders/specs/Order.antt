@@ -1,5 +1,6 @@
 -- 01, Files: "An order opens with its kind. Kinds 1 to 4 are orders, 0 is reserved, 5 upward are unknown. 1: deadline. 2: from, to, a link to
--- add. 3: from, to, a link to remove. 4: part, then a whole new curve as in a design file."
+-- add. 3: from, to, a link to remove. 4: part, then a whole new curve as in a design file." An order is read alone: the board is not asked, and
+-- what follows it is the next order's. The subtle point: any number may stand for the kind, so 1 and 2 come before 12.
 -- Assumes nothing.
 use mathlib.Core.Path.{_≡_}
 use mathlib.Core.Bool.{Bool, true, false}
@@ -71,8 +72,8 @@ orderRead (stop why place) = record { answer = Refused why place; took = 0; orde
 -- ---- orders in their ranges
 -- "part numbers 0 to 63"
 pub record Ends (from to : ℕ) : Type 0 where
-  pub from-to : from ≤ 63
-  pub to-to : to ≤ 63
+  pub from-in : from ≤ 63
+  pub to-in : to ≤ 63
 
 -- "Deadline: 1 to 4,095 ticks"; a new curve is as 01 asks it to be, and no other change brings one
 abbrev pub InRange : Change → Curve → Type 0
