@@ -6,14 +6,11 @@ use Prim.Native.Nat.{ℕ}
 use lib.ListN.{drop}
 use Rattle.base.specs.Pick.{pick}
 use Rattle.theory.specs.Sum.{sum}
-use Rattle.refusal.specs.declared.Why.{Why}
 use Rattle.refusal.specs.declared.Why.the-variants.{CutShort, NotShortest, OutOfRange, SavingNotBelow, PowerBelowSavings, UnknownKind}
 use Rattle.groups.specs.Number.{shortestEnd, groupsFrom, numberAt}
-use Rattle.curve.specs.declared.Run.{Run}
 use Rattle.curve.specs.declared.Curve.{Curve}
 use Rattle.curve.specs.Curve.{noRun, lengthAt, savingAt, savingsOf}
-use Rattle.board.specs.Board.{blankCurve}
-use Rattle.fields.specs.Parse.{Parse, got, stop, and-then, repeat, rangedAt, fieldAt}
+use Rattle.fields.specs.Parse.{got, stop, and-then, repeat, rangedAt, fieldAt}
 use Rattle.fields.specs.CurveFile.{bare, falls, runFrom, runsFrom, curveFrom}
 use Rattle.orders.specs.declared.Change.the-variants.{Deadline, AddLink, RemoveLink, NewCurve}
 use Rattle.orders.specs.Order.{plainly, deadlineFrom, linkFrom, newCurveFrom, kindFrom, orderOf}

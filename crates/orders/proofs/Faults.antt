@@ -1,6 +1,6 @@
 -- What can be wrong with an order that is read alone: only 1, 2, 12, 4, 5 and 6, each at its place.
 -- Assumes nothing.
-use mathlib.Core.Path.{_≡_, refl, sym, ap, _∙_}
+use mathlib.Core.Path.{_≡_, refl, sym, _∙_}
 use mathlib.Core.Bool.{Bool, true, false}
 use mathlib.Core.Logic.{⊎-elim}
 use mathlib.Core.List.{List}

@@ -1,16 +1,15 @@
 -- What was read does not depend on the bytes after it: a number, a field, a run, a curve, an order.
 -- Assumes nothing.
-use mathlib.Core.Path.{_≡_, refl, sym, ap, _∙_}
+use mathlib.Core.Path.{_≡_, ap}
 use mathlib.Core.Bool.{Bool, true, false}
 use mathlib.Core.List.{List, _++_}
-use Prim.Native.Nat.{ℕ, zero, suc, _≤_, _<_}
-use native.Mathlib.Omega.{arith}
+use Prim.Native.Nat.{ℕ, zero, suc}
 use Rattle.base.specs.Pick.{pick}
 use Rattle.groups.specs.declared.Read.the-variants.{Number}
 use Rattle.groups.specs.Number.{numberAt}
 use Rattle.groups.proofs.NumberLaws.{number-kept}
 use Rattle.curve.specs.declared.Curve.{Curve}
-use Rattle.fields.specs.Parse.{Parse, got, stop, and-then, repeat, number, fieldAt}
+use Rattle.fields.specs.Parse.{Parse, got, and-then, repeat, number, fieldAt}
 use Rattle.fields.specs.CurveFile.{bare, runFrom, runsFrom, curveFrom}
 use Rattle.fields.proofs.ParseLaws.{number-once, Then, then-got, Ranged, field-got, field-reads}
 use Rattle.orders.specs.declared.Change.{Change}

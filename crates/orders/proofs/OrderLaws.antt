@@ -3,8 +3,8 @@
 -- Assumes nothing.
 use mathlib.Core.Path.{_≡_, refl, sym, ap, _∙_}
 use mathlib.Core.Bool.{Bool, true, false}
-use mathlib.Core.List.{List, [], _++_}
-use Prim.Native.Nat.{ℕ, _+_, _≤_, _<_}
+use mathlib.Core.List.{List, _++_}
+use Prim.Native.Nat.{ℕ, _≤_, _<_}
 use native.Mathlib.Omega.{arith}
 use native.Mathlib.Nat.{zero-add}
 use lib.Dec.{eqb}
@@ -16,10 +16,8 @@ use Rattle.refusal.specs.declared.Why.{Why}
 use Rattle.refusal.specs.declared.Answer.the-variants.{Done, Refused}
 use Rattle.groups.specs.declared.Read.the-variants.{Number}
 use Rattle.groups.specs.Number.{numberAt, encode}
-use Rattle.groups.proofs.RoundTrip.{number-next, Bytes}
+use Rattle.groups.proofs.RoundTrip.{Bytes}
 use Rattle.curve.specs.declared.Curve.{Curve}
-use Rattle.curve.specs.Curve.{Good}
-use Rattle.board.specs.Board.{blankCurve}
 use Rattle.fields.specs.Parse.{Parse, got, stop, and-then, number, fieldAt}
 use Rattle.fields.specs.CurveFile.{curveFrom, curveBytes}
 use Rattle.fields.proofs.ParseLaws.{number-once, Then, then-got, got-same, Ranged, field-got}

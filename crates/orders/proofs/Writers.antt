@@ -1,8 +1,8 @@
 -- The ways of the writers: each change's bytes, their count, its numbers in their ranges, and room for each step.
 -- Assumes nothing.
-use mathlib.Core.Path.{_≡_, refl, sym, ap, _∙_}
+use mathlib.Core.Path.{_≡_}
 use mathlib.Core.List.{List, _++_}
-use Prim.Native.Nat.{ℕ, _+_, _≤_, _<_}
+use Prim.Native.Nat.{ℕ, _+_, _≤_}
 use native.Mathlib.Omega.{arith}
 use mir.Val.{Fits}
 use mir.Syntax.{w32, w64}
@@ -15,7 +15,6 @@ use Rattle.fields.specs.CurveFile.{curveBytes}
 use Rattle.fields.specs.Writing.{Wrote}
 use Rattle.fields.proofs.WritingLaws.{wrote-more, first-room, then-room}
 use Rattle.fields.proofs.CurveFileLaws.{curve-size-le}
-use Rattle.orders.specs.declared.Change.{Change}
 use Rattle.orders.specs.declared.Change.the-variants.{Deadline, AddLink, RemoveLink, NewCurve}
 use Rattle.orders.specs.declared.Order.{Order}
 use Rattle.orders.specs.Order.{Ends, Orderly, orderBytes}
