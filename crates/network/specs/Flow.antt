@@ -3,8 +3,26 @@
 use mathlib.Core.Path.{_≡_}
 use mathlib.Core.Bool.{Bool, true, false}
 use Prim.Native.Nat.{ℕ, _+_, _-_, _≤_, _<_}
+use Rattle.theory.specs.Sum.{into}
 use Rattle.theory.specs.Saving.{Suits}
-use Rattle.network.specs.Net.{Net, ins, outs}
+use Rattle.network.specs.Net.{Net}
+
+module _ (arcs : ℕ) (tail head : ℕ → ℕ) where
+  -- what comes to a node and what goes from it
+  abbrev pub ins : (ℕ → ℕ) → ℕ → ℕ
+  ins x v = into arcs head x v
+
+  abbrev pub outs : (ℕ → ℕ) → ℕ → ℕ
+  outs x v = into arcs tail x v
+
+  -- as much comes to the start and to the end of each part as goes from it
+  pub record Balanced (x : ℕ → ℕ) : Type 0 where
+    pub balance : (v : ℕ) → v < 128 → ins x v ≡ outs x v
+
+  -- loads as a sheet has them: none above 64,000, and balanced
+  pub record Sheet (x : ℕ → ℕ) : Type 0 where
+    pub small : (a : ℕ) → a < arcs → x a ≤ 64000
+    pub balanced : Balanced x
 
 module _ (N : Net) where
   -- the ticks between an arc's ends, past its base, suit its load
@@ -12,20 +30,11 @@ module _ (N : Net) where
     pub base : t (N .tail a) + N .base a ≤ t (N .head a)
     pub suits : Suits (N .gain a) (t (N .head a) - (t (N .tail a) + N .base a)) (x a)
 
-  -- as much comes to the start and the end of each part as goes from it
-  pub record Balanced (x : ℕ → ℕ) : Type 0 where
-    pub balance : (v : ℕ) → v < 128 → ins N x v ≡ outs N x v
-
-  -- loads as a sheet of a board's flow has them: none above 64,000, and balanced
-  pub record Sheet (x : ℕ → ℕ) : Type 0 where
-    pub small : (a : ℕ) → a < N .arcs → x a ≤ 64000
-    pub balanced : Balanced x
-
   -- what the main loop keeps
   pub record Flows (t x : ℕ → ℕ) : Type 0 where
     pub fit : (a : ℕ) → a < N .arcs → Fit t x a
     pub root : t 128 ≡ 0
-    pub balanced : Balanced x
+    pub balanced : Balanced (N .arcs) (N .tail) (N .head) x
 
   -- the marked nodes may go down by d, as far as the arcs go that lead into them
   pub record Lowers (t mark : ℕ → ℕ) (d : ℕ) : Type 0 where
@@ -38,7 +47,8 @@ module _ (N : Net) where
   pub record World (due : ℕ) : Type 0 where
     pub live-tail : (t mark : ℕ → ℕ) (d : ℕ) → Lowers t mark d → (a : ℕ) → a < N .arcs → 0 < mark (N .tail a) → d ≤ t (N .tail a)
     pub live-head : (t mark : ℕ → ℕ) (d : ℕ) → Lowers t mark d → (a : ℕ) → a < N .arcs → 0 < mark (N .head a) → d ≤ t (N .head a)
-    pub bound : (t x : ℕ → ℕ) → Flows t x → due < t 129 → ins N x 129 ≤ 64000 + outs N x 129
+    pub bound : (t x : ℕ → ℕ) → Flows t x → due < t 129 →
+        ins (N .arcs) (N .tail) (N .head) x 129 ≤ 64000 + outs (N .arcs) (N .tail) (N .head) x 129
     pub loads : (t x : ℕ → ℕ) → Flows t x → due < t 129 → (a : ℕ) → a < N .arcs → x a ≤ 64000
     pub inside : (t x : ℕ → ℕ) → Flows t x → (a : ℕ) → a < N .arcs → t (N .head a) ≤ t 129
 

@@ -6,7 +6,7 @@
 use mathlib.Core.Path.{_≡_}
 use mathlib.Core.List.{List}
 use Prim.Native.Nat.{ℕ, suc, _+_, _*_, _≤_, _<_}
-use Rattle.theory.specs.Sum.{sum, into, cells}
+use Rattle.theory.specs.Sum.{sum, cells}
 use Rattle.theory.specs.Saving.{tick}
 
 -- Nodes are numbers below 130: the start of part p is node p, its end node 64 + p, the source 128 and the sink 129.
@@ -50,10 +50,3 @@ pub record Curved (arcs : ℕ) (base lengths savings : List ℕ) : Type 0 where
   pub short : (a : ℕ) → a < arcs → cells base a ≤ 4095
   pub slowest : (a : ℕ) → a < arcs → a < 64 → cells base a + sum 4 (lengthAt lengths a) ≤ 4095
   pub falls : (a : ℕ) → a < arcs → a < 64 → (i : ℕ) → suc i < 4 → savingAt savings a (suc i) ≤ savingAt savings a i
-
--- what comes to a node and what goes from it
-abbrev pub ins : Net → (ℕ → ℕ) → ℕ → ℕ
-ins N x v = into (N .arcs) (N .head) x v
-
-abbrev pub outs : Net → (ℕ → ℕ) → ℕ → ℕ
-outs N x v = into (N .arcs) (N .tail) x v
