@@ -25,6 +25,12 @@ pub enum Why {
     NoLabel,
 }
 
+// What a call comes to: it was done, or why it was refused and the refusal's place.
+pub enum Answer {
+    Done,
+    Refused { why: Why, place: usize },
+}
+
 // The paper's number of a refusal.
 pub fn number(w: Why) -> u8
     ensures { λ r. ⌜ r ≡ numberOf w ⌝ }

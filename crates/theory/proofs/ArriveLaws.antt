@@ -1,7 +1,8 @@
 -- Laws of the greatest of some numbers, and of the last arrival at a part.
 -- Assumes nothing.
 use mathlib.Core.Path.{_≡_, refl, ap}
-use Prim.Native.Nat.{ℕ, zero, suc, _+_, _≤_, _<_}
+use Prim.Native.Nat.{ℕ, zero, suc, max, _+_, _≤_, _<_}
+use native.Mathlib.Numerals.{add-one}
 use native.Mathlib.Decide.{ℕ-discrete, decLe}
 use native.Mathlib.Omega.{arith}
 use Rattle.theory.specs.Sum.{share}
@@ -18,6 +19,11 @@ pub greatest-le : (m : ℕ) (f : ℕ → ℕ) (b : ℕ) → ((l : ℕ) → l < m
 unfolding greatest
 greatest-le zero f b h = omega arith
 greatest-le (suc m) f b h = omega (arith, greatest-le m f b (λ l k. h l (omega arith)), h m (omega arith))
+
+-- one number more, as a loop's counter goes on
+pub greatest-next : (m : ℕ) (f : ℕ → ℕ) → greatest (m + 1) f ≡ max (greatest m f) (f m)
+unfolding greatest
+greatest-next m f = rw add-one
 
 -- it is 0, or one of them
 pub greatest-at : (m : ℕ) (f : ℕ → ℕ) → 0 < greatest m f → (l : ℕ) × (l < m) × (f l ≡ greatest m f)

@@ -42,7 +42,7 @@ module _ (G : Graph) (o : Lawful G) (φ : Flow) (c : Conserves G φ) (T : ℕ) (
   open Flow φ using (part, link, entry, exit)
   open Times τ using (start, end, used)
 
-  -- where each link's load leaves and where it arrives, and when loads enter and leave the board
+  -- where each link's load leaves and where it arrives, and when loads enter and leave the graph
   abbrev early : ℕ → ℕ
   early l = (end (from l) + wire l) * link l
 
@@ -61,9 +61,10 @@ module _ (G : Graph) (o : Lawful G) (φ : Flow) (c : Conserves G φ) (T : ℕ) (
   work =
       omega (
         arith,
-        weigh parts links from link exit part end (o .from-in) (c .leaves),
-        weigh parts links to link entry part start (o .to-in) (c .arrives),
-        sum-ext parts {f = λ p. end p * part p} {g = λ p. start p * part p + fastest p * part p + used p * part p} (λ p h. ap (λ k. k * part p) (sym (f .spans p h)) ∙ omega arith),
+        weigh parts links from link exit part end (o .from-in) (λ p h. omega (arith, c .leaves p h)),
+        weigh parts links to link entry part start (o .to-in) (λ p h. omega (arith, c .arrives p h)),
+        sum-ext parts {f = λ p. end p * part p} {g = λ p. start p * part p + fastest p * part p + used p * part p}
+            (λ p h. ap (λ k. k * part p) (sym (f .spans p h)) ∙ omega arith),
         sum-add parts (λ p. start p * part p + fastest p * part p) (λ p. used p * part p),
         sum-add parts (λ p. start p * part p) (λ p. fastest p * part p),
         sum-ext links {f = early} {g = λ l. end (from l) * link l + wire l * link l} (λ l h. omega arith),
@@ -110,7 +111,7 @@ module _ (G : Graph) (o : Lawful G) (φ : Flow) (c : Conserves G φ) (T : ℕ) (
       omega (
         arith,
         work,
-        sum-ext links {f = early} {g = late} (λ l h. times (link l) (k .tight l h)),
+        sum-ext links {f = early} {g = late} (λ l h. times (link l) (λ y. omega (arith, k .tight l h y))),
         sum-ext parts {f = done} {g = λ p. T * exit p} (λ p h. times (exit p) (k .stops p h)),
         sum-ext parts {f = begun} {g = λ p. 0 * entry p} (λ p h. times (entry p) (k .starts p h)),
         sum-scale parts T exit,

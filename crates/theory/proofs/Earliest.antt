@@ -12,6 +12,7 @@ use Rattle.theory.proofs.Duality.{cheapest-total, cheapest-slack}
 use Rattle.theory.specs.Budget.{arrive, NoLater, Budget, Held}
 use Rattle.theory.proofs.ArriveLaws.{arrive-ge, arrive-le, arrive-ext}
 use Rattle.theory.proofs.TimedLaws.{budget-feasible}
+use Rattle.theory.proofs.Alike.{Alike}
 
 module _ (G : Graph) where
   open Graph G using (parts, from, fastest, ticks, saving)
@@ -44,29 +45,28 @@ module _ (G : Graph) where
     unfolding saved press
     press-saved = sum-ext parts (λ p h. saves-min (saving p) (ticks p) (o .past p h) (τ .used p))
 
-  -- ---- "there is exactly one": two held budgets are alike at every part, and so are their totals
-  pub held-once :
-      Lawful G → {T : ℕ} {τ τ′ : Times} → Held G T τ → Held G T τ′ → (p : ℕ) → p < parts →
-      (τ .start p ≡ τ′ .start p) × (τ .end p ≡ τ′ .end p) × (τ .used p ≡ τ′ .used p)
-  held-once o {T} {τ} {τ′} a b p h =
-      let ends : (q : ℕ) → q < parts → τ .end q ≡ τ′ .end q =
-      λ q k.
-      omega (
-        arith,
-        a .first τ′ (b .budget) (b .least τ (a .budget)) q k,
-        b .first τ (a .budget) (a .least τ′ (b .budget)) q k,
-      ) in
-      let starts : τ .start p ≡ τ′ .start p =
+  -- ---- "there is exactly one": two held budgets have one total, and are alike at every part
+  pub held-total-once : {T : ℕ} {τ τ′ : Times} → Held G T τ → Held G T τ′ → total G τ ≡ total G τ′
+  held-total-once {T} {τ} {τ′} a b = omega (arith, a .least τ′ (b .budget), b .least τ (a .budget))
+
+  pub held-once : Lawful G → {T : ℕ} {τ τ′ : Times} → Held G T τ → Held G T τ′ → Alike G τ τ′
+  held-once o {T} {τ} {τ′} a b =
+      let same = held-total-once a b in
+      let ends : (p : ℕ) → p < parts → τ .end p ≡ τ′ .end p =
+      λ p h. omega (arith, a .first τ′ (b .budget) (omega arith) p h, b .first τ (a .budget) (omega arith) p h) in
+      let starts : (p : ℕ) → p < parts → τ .start p ≡ τ′ .start p =
+      λ p h.
       omega (
         arith,
         a .budget .at-once p h,
         b .budget .at-once p h,
         arrive-ext G (τ .end) (τ′ .end) p (λ l k q. ends (from l) (o .from-in l k)),
       ) in
-      (starts, ends p h, omega (arith, starts, ends p h, a .budget .spans p h, b .budget .spans p h))
-
-  pub held-total-once : {T : ℕ} {τ τ′ : Times} → Held G T τ → Held G T τ′ → total G τ ≡ total G τ′
-  held-total-once {T} {τ} {τ′} a b = omega (arith, a .least τ′ (b .budget), b .least τ (a .budget))
+      record {
+        start-eq = starts;
+        end-eq = ends;
+        used-eq = λ p h. omega (arith, starts p h, ends p h, a .budget .spans p h, b .budget .spans p h);
+      }
 
   module _ (o : Lawful G) (φ : Flow) (c : Conserves G φ) {T : ℕ} {τ : Times} (f : Feasible G T τ) (k : Slack G T τ φ) where
     -- ---- the least times that are slack with a flow
@@ -92,6 +92,6 @@ module _ (G : Graph) where
       pub earliest-held : Held G T τ
       earliest-held = record {
         budget = earliest-budget;
-        least = λ τ′ b. cheapest-total G o φ c f k (budget-feasible G o b);
+        least = λ τ′ b. omega (arith, cheapest-total G o φ c f k (budget-feasible G o b));
         first = λ τ′ b same. earliest (budget-feasible G o b) (omega (arith, total-saved G o τ, total-saved G o τ′)) .end-le;
       }

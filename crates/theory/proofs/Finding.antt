@@ -25,7 +25,11 @@ look (suc n) {P} d = more (look n d) (d n)
     more (none f) (yes a) = found n (omega arith) a
     more (none f) (no b) = none (below-suc {P = λ i. P i → ⊥} f b)
 
-pub dec-and : {A G : Type 0} → Dec A → Dec G → Dec (A × G)
+-- and what follows from either
+pub look-for : (n : ℕ) {P : ℕ → Type 0} {A : Type 0} → ((i : ℕ) → Dec (P i)) → ((i : ℕ) → i < n → P i → A) → (((i : ℕ) → i < n → P i → ⊥) → A) → A
+look-for n d f g = elim (look n d) [ found i h a ↦ f i h a | none r ↦ g r ]
+
+pub dec-and : {A B : Type 0} → Dec A → Dec B → Dec (A × B)
 dec-and (yes a) (yes b) = yes (a, b)
 dec-and (yes a) (no b) = no (λ c. b (c .1))
 dec-and (no a) d = no (λ c. a (c .0))

@@ -1,21 +1,21 @@
--- The least schedule that is slack with a flow. A flow asks of each start and end that it be no earlier than another allows; times are
--- raised one by one, never past a schedule that is slack, until nothing is asked for any more.
+-- The least times that are slack with a flow. A flow asks of each start and end that it be no earlier than another allows; times are
+-- raised one by one, never past any that are slack, until nothing is asked for any more.
 -- Assumes nothing.
-use mathlib.Core.Path.{ap}
+use mathlib.Core.Path.{_≡_, ap}
 use mathlib.Core.Bool.{cond}
 use Prim.Native.Nat.{ℕ, zero, suc, pred, _+_, _-_, _≤_, _<_}
 use native.Mathlib.Decide.{ℕ-discrete, decLe, decLt}
 use native.Mathlib.Omega.{arith}
 use lib.Dec.{ltb}
 use borrow.Author.Tests.{lt-ltb, le-ltb}
-use Rattle.theory.specs.Sum.{sum, share}
+use Rattle.theory.specs.Sum.{sum}
 use Rattle.theory.proofs.SumLaws.{sum-le, sum-more, share-eq, share-ne, below-suc}
 use Rattle.theory.specs.Saving.{Suits, Falling}
 use Rattle.theory.specs.Graph.{Graph, Times, Flow, Lawful, Feasible, Slack}
 use Rattle.theory.specs.Budget.{NoLater}
-use Rattle.theory.proofs.Finding.{found, none, look, dec-and, bump, bump-more}
+use Rattle.theory.proofs.Finding.{look-for, dec-and, bump, bump-more}
 
--- ---- how many of the first k ticks, those before one that does not, save more than x
+-- ---- how many of the first k ticks save more than x, where savings fall
 unfoldable pub above : (ℕ → ℕ) → ℕ → ℕ → ℕ
 above g zero x = 0
 above g (suc k) x = cond (ltb x (g k)) (suc k) (above g k x)
@@ -44,6 +44,11 @@ module _ {g : ℕ → ℕ} (falls : Falling g) (x : ℕ) where
             below-suc {P = λ j. above g k x ≤ j → g j ≤ x} (λ j l. above-less k j l) (λ h. b) j l h′
       ]
 
+  -- nor do any more, where ticks from k on save nothing
+  pub above-rest : (k : ℕ) → ((j : ℕ) → k ≤ j → g j ≡ 0) → (j : ℕ) → above g k x ≤ j → g j ≤ x
+  above-rest k past j h =
+      elim (decLt j k) [ yes l ↦ above-less k j l h | no l ↦ omega (arith, past j (omega arith)) ]
+
 module _ (G : Graph) (T : ℕ) (φ : Flow) where
   open Graph G using (parts, links, from, to, wire, fastest, ticks, saving)
   open Flow φ using (part, link, entry, exit)
@@ -67,7 +72,7 @@ module _ (G : Graph) (T : ℕ) (φ : Flow) where
   unfoldable pub fill : Times → Times
   fill τ = record { start = τ .start; end = τ .end; used = λ p. τ .end p - (τ .start p + fastest p) }
 
-  -- no later than any schedule that is slack
+  -- no later than any times that are slack
   abbrev pub Under : Times → Type 0
   Under τ = (τ′ : Times) → Feasible G T τ′ → Slack G T τ′ φ → NoLater G τ τ′
 
@@ -75,19 +80,11 @@ module _ (G : Graph) (T : ℕ) (φ : Flow) where
     module _ (p : ℕ) (h : p < parts) where
       past-fewest : (j : ℕ) → fewest p ≤ j → saving p j ≤ part p
       unfolding fewest
-      past-fewest j l =
-          elim (decLt j (ticks p)) [
-            | yes a ↦ above-less (o .falls p h) (part p) (ticks p) j a l
-            | no a ↦ omega (arith, o .past p h j (omega arith))
-          ]
+      past-fewest = above-rest (o .falls p h) (part p) (ticks p) (o .past p h)
 
       past-most : (j : ℕ) → most p ≤ j → saving p j ≤ pred (part p)
       unfolding most
-      past-most j l =
-          elim (decLt j (ticks p)) [
-            | yes a ↦ above-less (o .falls p h) (pred (part p)) (ticks p) j a l
-            | no a ↦ omega (arith, o .past p h j (omega arith))
-          ]
+      past-most = above-rest (o .falls p h) (pred (part p)) (ticks p) (o .past p h)
 
       suits-fewest : (t : ℕ) → Suits (saving p) t (part p) → fewest p ≤ t
       unfolding fewest
@@ -156,7 +153,7 @@ module _ (G : Graph) (T : ℕ) (φ : Flow) where
       at-most : {a b : ℕ} → (a < b → ⊥) → b ≤ a
       at-most h = omega arith
 
-      -- what is asked is there, or a time is too early for every schedule that is slack
+      -- what is asked is there, or a start or end is earlier than in all times that are slack
       data Next (τ : Times) : Type 0 where
         there : Asks τ → Next τ
         early-start : (p : ℕ) → p < parts → ((τ′ : Times) → Feasible G T τ′ → Slack G T τ′ φ → τ .start p < τ′ .start p) → Next τ
@@ -164,42 +161,44 @@ module _ (G : Graph) (T : ℕ) (φ : Flow) where
 
       next : (τ : Times) → Under τ → Next τ
       next τ u =
-          elim (look parts (λ p. decLt (τ .end p) (τ .start p + (fastest p + fewest p)))) [
-            | found p h a ↦ early-end p h (λ τ′ f k. omega (arith, slack-asks f k .long p h, u τ′ f k .start-le p h))
-            | none n₁ ↦
-                elim (look parts (λ p. dec-and (decLt 0 (part p)) (decLt (τ .start p + (fastest p + most p)) (τ .end p)))) [
-                  | found p h a ↦ early-start p h (λ τ′ f k. omega (arith, slack-asks f k .brief p h (a .0), u τ′ f k .end-le p h))
-                  | none n₂ ↦
-                      elim (look links (λ l. decLt (τ .start (to l)) (τ .end (from l) + wire l))) [
-                        | found l h a ↦ early-start (to l) (o .to-in l h) (λ τ′ f k. omega (arith, f .waits l h, u τ′ f k .end-le (from l) (o .from-in l h)))
-                        | none n₃ ↦
-                            elim (look links (λ l. dec-and (decLt 0 (link l)) (decLt (τ .end (from l) + wire l) (τ .start (to l))))) [
-                              | found l h a ↦ early-end (from l) (o .from-in l h) (λ τ′ f k. omega (arith, k .tight l h (a .0), u τ′ f k .start-le (to l) (o .to-in l h)))
-                              | none n₄ ↦
-                                  elim (look parts (λ p. dec-and (decLt 0 (exit p)) (decLt (τ .end p) T))) [
-                                    | found p h a ↦ early-end p h (λ τ′ f k. omega (arith, k .stops p h (a .0)))
-                                    | none n₅ ↦ there record {
-                                      long = λ p h. at-most (n₁ p h);
-                                      brief = λ p h y. at-most (λ z. n₂ p h (y, z));
-                                      waits = λ l h. at-most (n₃ l h);
-                                      pulls = λ l h y. at-most (λ z. n₄ l h (y, z));
-                                      stops = λ p h y. at-most (λ z. n₅ p h (y, z));
-                                    }
-                                  ]
-                            ]
-                      ]
-                ]
-          ]
+          look-for parts (λ p. decLt (τ .end p) (τ .start p + (fastest p + fewest p)))
+          (λ p h a. early-end p h (λ τ′ f k. omega (arith, slack-asks f k .long p h, u τ′ f k .start-le p h)))
+          (λ n₁.
+          look-for parts (λ p. dec-and (decLt 0 (part p)) (decLt (τ .start p + (fastest p + most p)) (τ .end p)))
+          (λ p h a. early-start p h (λ τ′ f k. omega (arith, slack-asks f k .brief p h (a .0), u τ′ f k .end-le p h)))
+          (λ n₂.
+          look-for links (λ l. decLt (τ .start (to l)) (τ .end (from l) + wire l))
+          (λ l h a. early-start (to l) (o .to-in l h) (λ τ′ f k. omega (arith, f .waits l h, u τ′ f k .end-le (from l) (o .from-in l h))))
+          (λ n₃.
+          look-for links (λ l. dec-and (decLt 0 (link l)) (decLt (τ .end (from l) + wire l) (τ .start (to l))))
+          (λ l h a. early-end (from l) (o .from-in l h) (λ τ′ f k. omega (arith, k .tight l h (a .0), u τ′ f k .start-le (to l) (o .to-in l h))))
+          (λ n₄.
+          look-for parts (λ p. dec-and (decLt 0 (exit p)) (decLt (τ .end p) T))
+          (λ p h a. early-end p h (λ τ′ f k. omega (arith, k .stops p h (a .0))))
+          (λ n₅.
+          there record {
+            long = λ p h. at-most (n₁ p h);
+            brief = λ p h y. at-most (λ z. n₂ p h (y, z));
+            waits = λ l h. at-most (n₃ l h);
+            pulls = λ l h y. at-most (λ z. n₄ l h (y, z));
+            stops = λ p h y. at-most (λ z. n₅ p h (y, z));
+          })))))
 
       -- k bounds the raises that are left
-      raise : (k : ℕ) (τ : Times) → Under τ → sum parts (τ₁ .start) + sum parts (τ₁ .end) ≤ sum parts (τ .start) + sum parts (τ .end) + k → (τ′ : Times) × Under τ′ × Asks τ′
+      raise :
+          (k : ℕ) (τ : Times) → Under τ → sum parts (τ₁ .start) + sum parts (τ₁ .end) ≤ sum parts (τ .start) + sum parts (τ .end) + k →
+          (τ′ : Times) × Under τ′ × Asks τ′
       unfolding raise-start raise-end
       raise zero τ u less =
           let top = u τ₁ f₁ k₁ in
           elim (next τ u) [
             | there a ↦ (τ, u, a)
-            | early-start p h a ↦ absurd (omega (arith, sum-le parts (bump-le p (top .start-le) (a τ₁ f₁ k₁)), sum-le parts (top .end-le), sum-more h (bump-more parts (τ .start) p)))
-            | early-end p h a ↦ absurd (omega (arith, sum-le parts (top .start-le), sum-le parts (bump-le p (top .end-le) (a τ₁ f₁ k₁)), sum-more h (bump-more parts (τ .end) p)))
+            | early-start p h a ↦
+                let higher = sum-le parts (bump-le p (top .start-le) (a τ₁ f₁ k₁)) in
+                absurd (omega (arith, higher, sum-le parts (top .end-le), sum-more h (bump-more parts (τ .start) p)))
+            | early-end p h a ↦
+                let higher = sum-le parts (bump-le p (top .end-le) (a τ₁ f₁ k₁)) in
+                absurd (omega (arith, higher, sum-le parts (top .start-le), sum-more h (bump-more parts (τ .end) p)))
           ]
       raise (suc k) τ u less =
           elim (next τ u) [
@@ -214,12 +213,13 @@ module _ (G : Graph) (T : ℕ) (φ : Flow) where
                 (omega (arith, sum-more h (bump-more parts (τ .end) p)))
           ]
 
-      -- THE LEAST. Where some schedule is slack with a flow, there is a least one.
+      -- THE LEAST. Where some times are slack with a flow, there are least ones.
       pub least : (τ : Times) × Feasible G T τ × Slack G T τ φ × Under τ
       unfolding fill
       least =
           let zeros : Times = record { start = λ p. 0; end = λ p. 0; used = λ p. 0 } in
-          let r = raise (sum parts (τ₁ .start) + sum parts (τ₁ .end)) zeros (λ τ′ f k. record { start-le = λ p h. omega arith; end-le = λ p h. omega arith }) (omega arith) in (
+          let under : Under zeros = λ τ′ f k. record { start-le = λ p h. omega arith; end-le = λ p h. omega arith } in
+          let r = raise (sum parts (τ₁ .start) + sum parts (τ₁ .end)) zeros under (omega arith) in (
             fill (r .0),
             least-feasible (r .1) (r .2),
             least-slack (r .1) (r .2),

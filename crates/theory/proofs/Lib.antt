@@ -6,6 +6,8 @@ pub mod TotalLaws
 pub mod ArriveLaws
 pub mod TimedLaws
 pub mod Rounds
+pub mod Alike
+pub mod Tightening
 pub mod Duality
 pub mod ValueBounds
 pub mod Earliest

@@ -95,7 +95,8 @@ module _ (G : Graph) where
           let was = f .spans p h in
           let is = spans′ p h in
           let t′ : ℕ = lower labels δ τ .used p in
-          let fewer : t′ ≤ used p → (t′ < used p → saving p t′ ≤ φ .part p) → Suits (saving p) t′ (φ .part p) = suits-fewer (o .falls p h) (k .suits p h) t′ in
+          let fewer : t′ ≤ used p → (t′ < used p → saving p t′ ≤ φ .part p) → Suits (saving p) t′ (φ .part p) =
+          suits-fewer (o .falls p h) (k .suits p h) t′ in
           elim (start-moved p h) [
             | stays a q ↦
                 elim (end-moved p h) [

@@ -1,4 +1,4 @@
--- Carrying load from one node to another. A part has two nodes, its start and its end; the board has a source and a sink.
+-- Carrying load from one node to another. A part has two nodes, its start and its end; the graph has a source and a sink.
 -- Each arc that a push runs along carries b units from its first node to its second, and what carries from the source to the sink conserves.
 -- Assumes nothing.
 use mathlib.Core.Path.{_≡_, refl, sym, _∙_}
@@ -11,7 +11,7 @@ use Rattle.theory.proofs.SumLaws.{share-eq, share-ne, more-there, into-
 use Rattle.theory.proofs.SavingLaws.{suits-next-to}
 use Rattle.theory.specs.Graph.{Graph, Times, Flow, Lawful, Conserves, Slack, value}
 
--- ---- nodes
+-- ---- nodes: even numbers for starts, odd ones for ends; those past the last part are the source and the sink
 abbrev pub start-of : ℕ → ℕ
 start-of p = 2 * p
 
@@ -59,15 +59,21 @@ module _ (G : Graph) where
   -- φ′ is φ with b units carried from node u to node v: each node of a part has as much more coming in than going out as v gets and u gives
   pub record Carries (φ φ′ : Flow) (u v b : ℕ) : Type 0 where
     pub at-start : (p : ℕ) → p < parts →
-        into links to (φ′ .link) p + φ′ .entry p + φ .part p + share u (start-of p) b ≡ into links to (φ .link) p + φ .entry p + φ′ .part p + share v (start-of p) b
+        into links to (φ′ .link) p + φ′ .entry p + φ .part p + share u (start-of p) b
+        ≡ into links to (φ .link) p + φ .entry p + φ′ .part p + share v (start-of p) b
     pub at-end : (p : ℕ) → p < parts →
-        φ′ .part p + (into links from (φ .link) p + φ .exit p) + share u (end-of p) b ≡ φ .part p + (into links from (φ′ .link) p + φ′ .exit p) + share v (end-of p) b
+        φ′ .part p + (into links from (φ .link) p + φ .exit p) + share u (end-of p) b
+        ≡ φ .part p + (into links from (φ′ .link) p + φ′ .exit p) + share v (end-of p) b
 
   -- what carries from the source to the sink conserves
   pub carries-conserves : {φ φ′ : Flow} {b : ℕ} → Conserves G φ → Carries φ φ′ source sink b → Conserves G φ′
   carries-conserves {φ} {φ′} {b} c k = record {
-    arrives = λ p h. omega (arith, c .arrives p h, k .at-start p h, share-starts parts p b, share-ne {p = parts} {i = p} b (omega arith), share-end-start parts p b);
-    leaves = λ p h. omega (arith, c .leaves p h, k .at-end p h, share-start-end parts p b, share-ends parts p b, share-ne {p = parts} {i = p} b (omega arith));
+    arrives = λ p h.
+        let apart = share-ne {p = parts} {i = p} b (omega arith) in
+        omega (arith, c .arrives p h, k .at-start p h, share-starts parts p b, share-end-start parts p b);
+    leaves = λ p h.
+        let apart = share-ne {p = parts} {i = p} b (omega arith) in
+        omega (arith, c .leaves p h, k .at-end p h, share-start-end parts p b, share-ends parts p b);
   }
 
   -- one after the other, from either end
@@ -124,7 +130,9 @@ module _ (G : Graph) where
       through :
           {φ : Flow} {x : ℕ → ℕ} {q : ℕ} → q < parts → More parts (φ .part) x q b → ((j : ℕ) → suc j ≡ used q → x q ≤ saving q j) →
           Push φ (with-part φ x) (start-of q) (end-of q)
-      back : {φ : Flow} {x : ℕ → ℕ} {q : ℕ} → q < parts → More parts x (φ .part) q b → saving q (used q) ≤ x q → Push φ (with-part φ x) (end-of q) (start-of q)
+      back :
+          {φ : Flow} {x : ℕ → ℕ} {q : ℕ} → q < parts → More parts x (φ .part) q b → saving q (used q) ≤ x q →
+          Push φ (with-part φ x) (end-of q) (start-of q)
       along :
           {φ : Flow} {y : ℕ → ℕ} {q : ℕ} → q < links → More links (φ .link) y q b → end (from q) + wire q ≡ start (to q) →
           Push φ (with-link φ y) (end-of (from q)) (start-of (to q))
@@ -211,7 +219,9 @@ module _ (G : Graph) where
       push-value (through {q = q} h d r) = (omega arith, omega (arith, share-ne {p = end-of q} {i = sink} b (omega arith)))
       push-value (back {q = q} h d r) = (omega arith, omega (arith, share-start-end q parts b))
       push-value (along {q = q} h d r) = (omega (arith, o .from-in q h), omega (arith, share-start-end (to q) parts b))
-      push-value (against {q = q} h d) = (omega arith, omega (arith, o .from-in q h, share-ne {p = end-of (from q)} {i = sink} b (omega (arith, o .from-in q h))))
+      push-value (against {q = q} h d) =
+          let i = o .from-in q h in
+          (omega arith, omega (arith, share-ne {p = end-of (from q)} {i = sink} b (omega arith)))
       push-value (enter {q = q} h d r) = (omega arith, omega (arith, share-start-end q parts b))
       push-value (leave {q = q} h d r) = (omega arith, omega (arith, sum-more h d, share-eq {p = sink} {i = sink} b refl))
 

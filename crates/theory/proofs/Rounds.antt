@@ -1,4 +1,4 @@
--- The schedule of given delays, found in rounds: each round starts every part at the last arrival of the round before.
+-- The starts and ends of given delays, found in rounds: each round starts every part at the last arrival of the round before.
 -- On a graph with no loop a part is settled once the rounds pass its rank.
 -- Assumes nothing.
 use mathlib.Core.Path.{_≡_, refl, sym, ap}
@@ -27,7 +27,7 @@ module _ (G : Graph) where
         arrive-ext G (λ q. round delay (suc i) q + delay q) (λ q. round delay i q + delay q) p
         (λ l k e. ap (λ v. v + delay (from l)) (settled r i (from l) (omega (arith, r .rises l k, ap (r .rank) e))))
 
-    -- delays have a schedule
+    -- delays have starts and ends
     pub timed-is : {top : ℕ} → Ranked G top → Timed G delay (round delay top) (λ p. round delay top p + delay p)
     unfolding round
     timed-is {top} r = record { starts = λ p h. sym (settled r top p (r .below p h)); ends = λ p h. refl }

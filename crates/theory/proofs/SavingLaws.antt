@@ -39,7 +39,7 @@ module _ {g : ℕ → ℕ} {t x : ℕ} (s : Suits g t x) where
   pub best : (u : ℕ) → saves g u + x * t ≤ saves g t + x * u
   best u =
       elim (decLe t u) [
-        | yes l ↦ omega (arith, sum-const t x, sum-const u x, span-le t u {f = g} {g = λ i. x} l (λ j a b. s .unused j a))
+        | yes l ↦ omega (arith, sum-const t x, sum-const u x, span-le t u {f = g} {g = λ i. x} l (λ j a b. omega (arith, s .unused j a)))
         | no l ↦ omega (arith, sum-const t x, sum-const u x, span-le u t {f = λ i. x} {g = g} (omega arith) (λ j a b. s .used j b))
       ]
 

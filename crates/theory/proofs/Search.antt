@@ -12,7 +12,7 @@ use Rattle.theory.specs.Sum.{More}
 use Rattle.theory.specs.Graph.{Graph, Times, Flow, Lawful, Feasible}
 use Rattle.theory.proofs.Lowering.{Labels, Closed}
 use Rattle.theory.proofs.Pushing.{start-of, end-of, source, sink, Push.through, Push.back, Push.along, Push.against, Push.enter, Push.leave, Walk, Walk.here, Walk.on, with-part, with-link, with-entry, with-exit}
-use Rattle.theory.proofs.Finding.{found, none, look, dec-and, set-or-not, clash, mark, mark-there, mark-not, unmarked, mark-fewer, bump, dip, bump-more, dip-more}
+use Rattle.theory.proofs.Finding.{look-for, dec-and, set-or-not, clash, mark, mark-there, mark-not, unmarked, mark-fewer, bump, dip, bump-more, dip-more}
 
 mark-start : Labels → ℕ → Labels
 mark-start labels p = record { starts = mark (labels .starts) p; ends = labels .ends }
@@ -103,7 +103,9 @@ module _ (G : Graph) (F : ℕ) (τ : Times) (φ : Flow) where
         d : More parts (r .flow .part) (bump (r .flow .part) p) p 1
         d = bump-more parts (r .flow .part) p
 
-    reach-back : (p : ℕ) → p < parts → ends p ≡ true → starts p ≡ false → saving p (used p) < φ .part p → Reached labels (end-of p) → Reached (mark-start labels p) (start-of p)
+    reach-back :
+        (p : ℕ) → p < parts → ends p ≡ true → starts p ≡ false → saving p (used p) < φ .part p → Reached labels (end-of p) →
+        Reached (mark-start labels p) (start-of p)
     unfolding mark-start
     reach-back p h a b room r = record {
       flow = with-part (r .flow) (dip (r .flow .part) p);
@@ -174,43 +176,48 @@ module _ (G : Graph) (F : ℕ) (τ : Times) (φ : Flow) where
 
   next : Feasible G F τ → Lawful G → (labels : Labels) → Search labels → Next labels
   next f o labels σ =
-      elim (look parts (λ p. dec-and (ℕ-discrete (start p) 0) (Bool-discrete (starts p) false))) [
-        | found p h a ↦ new-start p h (a .1) (reach-in labels p h (a .0))
-        | none n₁ ↦
-            elim (look parts (λ p. dec-and (Bool-discrete (starts p) true) (dec-and (Bool-discrete (ends p) false) (dec-room p)))) [
-              | found p h a ↦ new-end p h (a .1 .0) (reach-through labels p h (a .0) (a .1 .0) (a .1 .1) (σ .starts p h (a .0)))
-              | none n₂ ↦
-                  elim (look parts (λ p. dec-and (Bool-discrete (ends p) true) (dec-and (Bool-discrete (starts p) false) (decLt (saving p (used p)) (φ .part p))))) [
-                    | found p h a ↦ new-start p h (a .1 .0) (reach-back labels p h (a .0) (a .1 .0) (a .1 .1) (σ .ends p h (a .0)))
-                    | none n₃ ↦
-                        elim (look links (λ l. dec-and (Bool-discrete (ends (from l)) true) (dec-and (Bool-discrete (starts (to l)) false) (ℕ-discrete (end (from l) + wire l) (start (to l)))))) [
-                          | found l h a ↦ new-start (to l) (o .to-in l h) (a .1 .0) (reach-along labels l h (a .0) (a .1 .0) (a .1 .1) (σ .ends (from l) (o .from-in l h) (a .0)))
-                          | none n₄ ↦
-                              elim (look links (λ l. dec-and (Bool-discrete (starts (to l)) true) (dec-and (Bool-discrete (ends (from l)) false) (decLt 0 (φ .link l))))) [
-                                | found l h a ↦ new-end (from l) (o .from-in l h) (a .1 .0) (reach-against labels l h (a .0) (a .1 .0) (a .1 .1) (σ .starts (to l) (o .to-in l h) (a .0)))
-                                | none n₅ ↦
-                                    elim (look parts (λ p. dec-and (Bool-discrete (ends p) true) (ℕ-discrete (end p) F))) [
-                                      | found p h a ↦ let w = reach-out labels p h (a .1) (σ .ends p h (a .0)) in out (w .0) (w .1)
-                                      | none n₆ ↦ closed record {
-                                        entry = λ p h x. set-or-not (starts p) (λ y. y) (λ y. absurd (n₁ p h (x, y)));
-                                        through = λ p h x r. set-or-not (ends p) (λ y. y) (λ y. absurd (n₂ p h (x, (y, r))));
-                                        back = λ p h x r. set-or-not (starts p) (λ y. y) (λ y. absurd (n₃ p h (x, (y, r))));
-                                        along = λ l h x r. set-or-not (starts (to l)) (λ y. y) (λ y. absurd (n₄ l h (x, (y, r))));
-                                        against = λ l h x r. set-or-not (ends (from l)) (λ y. y) (λ y. absurd (n₅ l h (x, (y, r))));
-                                        short = λ p h x. let d : end p ≢ F = λ q. n₆ p h (x, q) in omega (arith, f .ends p h);
-                                      }
-                                    ]
-                              ]
-                        ]
-                  ]
-            ]
-      ]
+      look-for parts (λ p. dec-and (ℕ-discrete (start p) 0) (Bool-discrete (starts p) false))
+      (λ p h a. new-start p h (a .1) (reach-in labels p h (a .0)))
+      (λ n₁.
+      look-for parts (λ p. dec-and (Bool-discrete (starts p) true) (dec-and (Bool-discrete (ends p) false) (dec-room p)))
+      (λ p h a. new-end p h (a .1 .0) (reach-through labels p h (a .0) (a .1 .0) (a .1 .1) (σ .starts p h (a .0))))
+      (λ n₂.
+      look-for parts (λ p. dec-and (Bool-discrete (ends p) true) (dec-and (Bool-discrete (starts p) false) (dec-spare p)))
+      (λ p h a. new-start p h (a .1 .0) (reach-back labels p h (a .0) (a .1 .0) (a .1 .1) (σ .ends p h (a .0))))
+      (λ n₃.
+      look-for links (λ l. dec-and (Bool-discrete (ends (from l)) true) (dec-and (Bool-discrete (starts (to l)) false) (dec-tight l)))
+      (λ l h a.
+      let before = σ .ends (from l) (o .from-in l h) (a .0) in
+      new-start (to l) (o .to-in l h) (a .1 .0) (reach-along labels l h (a .0) (a .1 .0) (a .1 .1) before))
+      (λ n₄.
+      look-for links (λ l. dec-and (Bool-discrete (starts (to l)) true) (dec-and (Bool-discrete (ends (from l)) false) (decLt 0 (φ .link l))))
+      (λ l h a.
+      let before = σ .starts (to l) (o .to-in l h) (a .0) in
+      new-end (from l) (o .from-in l h) (a .1 .0) (reach-against labels l h (a .0) (a .1 .0) (a .1 .1) before))
+      (λ n₅.
+      look-for parts (λ p. dec-and (Bool-discrete (ends p) true) (ℕ-discrete (end p) F))
+      (λ p h a. let w = reach-out labels p h (a .1) (σ .ends p h (a .0)) in out (w .0) (w .1))
+      (λ n₆.
+      closed record {
+        entry = λ p h x. set-or-not (starts p) (λ y. y) (λ y. absurd (n₁ p h (x, y)));
+        through = λ p h x r. set-or-not (ends p) (λ y. y) (λ y. absurd (n₂ p h (x, (y, r))));
+        back = λ p h x r. set-or-not (starts p) (λ y. y) (λ y. absurd (n₃ p h (x, (y, r))));
+        along = λ l h x r. set-or-not (starts (to l)) (λ y. y) (λ y. absurd (n₄ l h (x, (y, r))));
+        against = λ l h x r. set-or-not (ends (from l)) (λ y. y) (λ y. absurd (n₅ l h (x, (y, r))));
+        short = λ p h x. let d : end p ≢ F = λ q. n₆ p h (x, q) in omega (arith, f .ends p h);
+      }))))))
     where
       starts : ℕ → Bool
       starts = labels .starts
 
       ends : ℕ → Bool
       ends = labels .ends
+
+      dec-spare : (p : ℕ) → Dec (saving p (used p) < φ .part p)
+      dec-spare p = decLt (saving p (used p)) (φ .part p)
+
+      dec-tight : (l : ℕ) → Dec (end (from l) + wire l ≡ start (to l))
+      dec-tight l = ℕ-discrete (end (from l) + wire l) (start (to l))
 
   -- ---- the search ends: with labels that are closed, or with a walk
   pub data Outcome : Type 0 where

@@ -1,9 +1,8 @@
--- The starts and ends of given delays: there is one such schedule, it is the earliest, and with delays in range it is a budget.
--- Whether a deadline can be kept is then seen from the schedule with all parts at their fastest.
+-- The starts and ends of given delays: delays have at most one, none are earlier, and with delays in range they are a budget.
+-- Whether a deadline can be kept is then seen from all parts at their fastest.
 -- Assumes nothing.
-use mathlib.Core.Path.{_≡_, sym, ap, _∙_}
-use Prim.Native.Nat.{ℕ, zero, suc, _+_, _≤_, _<_}
-use native.Mathlib.Nat.{add-zero}
+use mathlib.Core.Path.{_≡_, sym, ap}
+use Prim.Native.Nat.{ℕ, zero, suc, _+_, _-_, _≤_, _<_}
 use native.Mathlib.Omega.{arith}
 use Rattle.theory.specs.Graph.{Graph, Times, Lawful, Ranked, Feasible}
 use Rattle.theory.specs.Budget.{arrive, Timed, NoLater, Budget}
@@ -12,7 +11,7 @@ use Rattle.theory.proofs.ArriveLaws.{arrive-ge, arrive-le, arrive-ext}
 module _ (G : Graph) where
   open Graph G using (parts, links, from, to, wire, fastest, ticks)
 
-  -- ---- delays have one schedule: on a graph with no loop a part's start goes by the starts of parts with lower ranks
+  -- ---- delays have one start and end for each part: on a graph with no loop a part's start goes by the starts of parts with lower ranks
   module _ (o : Lawful G) {top : ℕ} (r : Ranked G top) {delay s e s′ e′ : ℕ → ℕ} (t : Timed G delay s e) (t′ : Timed G delay s′ e′) where
     end-once : (p : ℕ) → p < parts → s p ≡ s′ p → e p ≡ e′ p
     end-once p h q = omega (arith, t .ends p h, t′ .ends p h)
@@ -32,7 +31,7 @@ module _ (G : Graph) where
         let same = start-once (suc (r .rank p)) p h (omega arith) in
         (same, end-once p h same)
 
-  -- ---- it is no later than any times in which each part takes as long or longer
+  -- ---- no later than any times in which each part takes as long or longer
   module _ (o : Lawful G) {delay s e : ℕ → ℕ} (t : Timed G delay s e) {T : ℕ} {τ : Times} (f : Feasible G T τ)
       (long : (p : ℕ) → p < parts → delay p ≤ fastest p + τ .used p)
     where
@@ -57,7 +56,7 @@ module _ (G : Graph) where
           let first = start-first (suc (τ .end p)) p h (omega arith) in
           (first, end-first p h first)
 
-  -- ---- a budget is the schedule of delays from the fastest to the slowest, and keeps the deadline
+  -- ---- a budget: delays from the fastest to the slowest, and ends within the deadline
   pub budget-timed : {T : ℕ} {τ : Times} → Budget G T τ → Timed G (λ p. fastest p + τ .used p) (τ .start) (τ .end)
   budget-timed b = record { starts = b .at-once; ends = λ p h. sym (b .spans p h) }
 
@@ -65,6 +64,18 @@ module _ (G : Graph) where
       {T : ℕ} {τ : Times} → Timed G (λ p. fastest p + τ .used p) (τ .start) (τ .end) →
       ((p : ℕ) → p < parts → τ .end p ≤ T) → ((p : ℕ) → p < parts → τ .used p ≤ ticks p) → Budget G T τ
   timed-budget t ends range = record { spans = λ p h. sym (t .ends p h); at-once = t .starts; ends = ends; in-range = range }
+
+  -- "a whole delay from its fastest to its slowest": the same in delays
+  pub delays-budget :
+      {delay s e : ℕ → ℕ} → Timed G delay s e → {T : ℕ} → ((p : ℕ) → p < parts → e p ≤ T) →
+      ((p : ℕ) → p < parts → fastest p ≤ delay p) → ((p : ℕ) → p < parts → delay p ≤ fastest p + ticks p) →
+      Budget G T (record { start = s; end = e; used = λ p. delay p - fastest p })
+  delays-budget t ends slow fast = record {
+    spans = λ p h. omega (arith, t .ends p h, slow p h);
+    at-once = t .starts;
+    ends = ends;
+    in-range = λ p h. omega (arith, fast p h);
+  }
 
   pub budget-feasible : Lawful G → {T : ℕ} {τ : Times} → Budget G T τ → Feasible G T τ
   budget-feasible o {T} {τ} b = record {
@@ -82,24 +93,27 @@ module _ (G : Graph) where
       record { start-le = λ p h. first p h .0; end-le = λ p h. first p h .1 }
 
   -- ---- whether a deadline can be kept
+  -- where all parts at their fastest keep it, they are a budget;
+  pub fastest-budget :
+      {s e : ℕ → ℕ} → Timed G fastest s e → {T : ℕ} → ((p : ℕ) → p < parts → e p ≤ T) →
+      Budget G T (record { start = s; end = e; used = λ p. 0 })
+  fastest-budget t ends = record {
+    spans = λ p h. omega (arith, t .ends p h);
+    at-once = t .starts;
+    ends = ends;
+    in-range = λ p h. omega arith;
+  }
+
   module _ (o : Lawful G) {s e : ℕ → ℕ} (t : Timed G fastest s e) {T : ℕ} where
-    -- nothing is earlier than all parts at their fastest,
+    -- and nothing is earlier,
     pub fastest-first : {τ : Times} → Feasible G T τ → (p : ℕ) → p < parts → (s p ≤ τ .start p) × (e p ≤ τ .end p)
     fastest-first f = timed-first o t f (λ p h. omega arith)
 
-    -- so a budget is allowed just where they keep the deadline; they are one themselves then.
+    -- so a budget is allowed just where they keep it.
     pub fastest-fits : {τ : Times} → Feasible G T τ → (p : ℕ) → p < parts → e p ≤ T
     fastest-fits f p h = omega (arith, fastest-first f p h .1, f .ends p h)
-
-    pub fastest-budget : ((p : ℕ) → p < parts → e p ≤ T) → Budget G T (record { start = s; end = e; used = λ p. 0 })
-    fastest-budget ends = record {
-      spans = λ p h. omega (arith, t .ends p h);
-      at-once = t .starts;
-      ends = ends;
-      in-range = λ p h. omega arith;
-    }
 
     pub possible :
         (((τ : Times) × Budget G T τ) → (p : ℕ) → p < parts → e p ≤ T)
         × (((p : ℕ) → p < parts → e p ≤ T) → (τ : Times) × Budget G T τ)
-    possible = (λ b. fastest-fits (budget-feasible o (b .1)), λ ends. (record { start = s; end = e; used = λ p. 0 }, fastest-budget ends))
+    possible = (λ b. fastest-fits (budget-feasible o (b .1)), λ ends. (record { start = s; end = e; used = λ p. 0 }, fastest-budget t ends))

@@ -1,6 +1,6 @@
 -- Pushing b units along a path that is walked back from the sink, as code does that keeps each node's way back.
--- Nodes have numbers, the order in which they were labelled: `os p` of p's start and `oe p` of its end. They fall on the way back, so the
--- loads of the arcs still to come are as they were, and room that was there before the first push is there still.
+-- Each node has its turn, the order in which nodes were labelled: `start-turn p` for p's start and `end-turn p` for its end. Turns fall on
+-- the way back, so the loads of the arcs still to come are as they were, and room that was there before the first push is there still.
 -- Assumes nothing.
 use mathlib.Core.Path.{_≡_, refl, sym, ap, _∙_}
 use Prim.Native.Nat.{ℕ, suc, _+_, _≤_, _<_}
@@ -27,7 +27,7 @@ module _ (G : Graph) (o : Lawful G) (T : ℕ) (τ : Times) (b : ℕ) (φ₀ : Fl
     more-value = same ∙ w .more-value;
   }
 
-  -- and loads next to a node with a number below r are as they were
+  -- and loads next to a node whose turn came before r are as they were
   pub record Trail (φ : Flow) (v r : ℕ) : Type 0 where
     pub sent : Sent φ v
     pub part-start : (p : ℕ) → p < parts → start-turn p < r → φ .part p ≡ φ₀ .part p
@@ -36,7 +36,9 @@ module _ (G : Graph) (o : Lawful G) (T : ℕ) (τ : Times) (b : ℕ) (φ₀ : Fl
     pub link-end : (l : ℕ) → l < links → end-turn (from l) < r → φ .link l ≡ φ₀ .link l
 
   -- the path's last arc
-  pub trail-out : {z : ℕ → ℕ} {q : ℕ} → q < parts → end q ≡ T → Slack G T τ φ₀ → More parts (φ₀ .exit) z q b → Trail (with-exit φ₀ z) (end-of q) (end-turn q)
+  pub trail-out :
+      {z : ℕ → ℕ} {q : ℕ} → q < parts → end q ≡ T → Slack G T τ φ₀ → More parts (φ₀ .exit) z q b →
+      Trail (with-exit φ₀ z) (end-of q) (end-turn q)
   unfolding value
   trail-out {z} {q} h a k d =
       let step : Push G T τ b φ₀ (with-exit φ₀ z) (end-of q) (sink G) = leave h d a in
@@ -87,8 +89,8 @@ module _ (G : Graph) (o : Lawful G) (T : ℕ) (τ : Times) (b : ℕ) (φ₀ : Fl
     }
 
     pub trail-against :
-        {y : ℕ → ℕ} {q : ℕ} → Trail φ (end-of (from q)) (end-turn (from q)) → q < links → start-turn (to q) < end-turn (from q) → More links y (φ .link) q b →
-        Trail (with-link φ y) (start-of (to q)) (start-turn (to q))
+        {y : ℕ → ℕ} {q : ℕ} → Trail φ (end-of (from q)) (end-turn (from q)) → q < links → start-turn (to q) < end-turn (from q) →
+        More links y (φ .link) q b → Trail (with-link φ y) (start-of (to q)) (start-turn (to q))
     unfolding value
     trail-against {y} {q} w h less d = record {
       sent = sent-on (w .sent) (against h d) refl;

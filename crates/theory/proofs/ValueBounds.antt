@@ -31,7 +31,12 @@ module _ (G : Graph) (o : Lawful G) where
     pub balance :
         (π : ℕ → ℕ) →
         sum links (λ l. π (from l) * link l) + sum parts (λ p. π p * exit p) ≡ sum links (λ l. π (to l) * link l) + sum parts (λ p. π p * entry p)
-    balance π = omega (arith, weigh parts links from link exit part π (o .from-in) (c .leaves), weigh parts links to link entry part π (o .to-in) (c .arrives))
+    balance π =
+        omega (
+          arith,
+          weigh parts links from link exit part π (o .from-in) (c .leaves),
+          weigh parts links to link entry part π (o .to-in) (c .arrives),
+        )
 
     -- as much enters as leaves
     pub value-entry : value G φ ≡ sum parts entry
@@ -85,7 +90,7 @@ module _ (G : Graph) (o : Lawful G) where
       {F T : ℕ} {τ τ⁰ : Times} → Feasible G F τ → Feasible G T τ⁰ → T < F → (φ : Flow) → Conserves G φ → Slack G F τ φ → value G φ ≤ tops G
   value-tops {F} {T} f f⁰ below φ c k =
       let t = timed-is G fastest (feasible-ranked G o f⁰) in
-      let quick = budget-feasible G o (fastest-budget G o t (fastest-fits G o t f⁰)) in
+      let quick = budget-feasible G o (fastest-budget G t (fastest-fits G o t f⁰)) in
       omega (
         arith,
         value-saved φ c f k {T = pred F} (omega arith) (hasten-feasible f quick below),
@@ -116,7 +121,11 @@ module _ (G : Graph) (o : Lawful G) where
     crosses p l h =
         elim (decLt (end p) (end (from l))) [
           | yes a ↦
-              rw (after-1 p (from l) a, after-1 p (to l) (omega (arith, later l h)), share-ne {p = from l} {i = p} (link l) (λ q. omega (arith, ap end q)))
+              rw (
+                after-1 p (from l) a,
+                after-1 p (to l) (omega (arith, later l h)),
+                share-ne {p = from l} {i = p} (link l) (λ q. omega (arith, ap end q)),
+              )
               (omega arith)
           | no a ↦
               rw (after-0 p (from l) (omega arith))
