@@ -1,1 +1,3 @@
 pub mod Curve
+pub mod Answers
+pub mod Tests

@@ -1,4 +1,12 @@
 // A part's curve: how slow it may be and what each tick of that saves. Ticks and microwatts are two types, and neither is taken for the other.
+// All but `slowest` and `savings` hold for any value of a curve: `power_at` and the savings go run by run and take off as they go, so no sum can
+// pass its type.
+use refusal::Why;
+ghost use mathlib.Core.Path.{_≡_};
+ghost use Prim.Native.Nat.{_*_, _-_, _<_, min};
+ghost use Rattle.curve.specs.Curve.{Good, slowestOf, savingsOf};
+ghost use Rattle.curve.specs.Answers.{flatOf, nextSavingOf, lastSavingOf, offCurve, powerAtOf, usedOf};
+ghost use Rattle.curve.specs.Tests.{Sized, every, blankb, rangedb, placeb, goodb};
 
 // A count of ticks.
 pub struct Ticks(pub u32);
@@ -20,6 +28,104 @@ pub struct Curve {
     pub runs: [Run; 4],
 }
 
+// The power at a delay, or why there is none.
+pub enum Power {
+    At(Microwatts),
+    Refused { why: Why, place: usize },
+}
+
+// What the last tick used saves; at the fastest delay none is used.
+pub enum Last {
+    Saving(Microwatts),
+    Unused,
+}
+
+// A delay on its way along a curve: the ticks still to be used, and the power with those used so far.
+struct Slowing {
+    left: Ticks,
+    power: Microwatts,
+}
+
+// The lesser of two numbers.
+fn lesser(a: usize, b: usize) -> usize
+    ensures { λ r. ⌜ r ≡ min a b ⌝ }
+{
+    if a < b { a } else { b }
+}
+
+// How far a is above b.
+fn above(a: u32, b: u32) -> u32
+    ensures { λ r. ⌜ r ≡ a - b ⌝ }
+{
+    if a < b { 0 } else { a - b }
+}
+
+// The power less the saving of each tick used. The product is taken wide, and a power does not fall below 0.
+fn less_saved(power: Microwatts, used: Ticks, saving: Microwatts) -> Microwatts
+    ensures { λ r. ⌜ r .0 ≡ power .0 - used .0 * saving .0 ⌝ }
+{
+    let all = power.0 as u64;
+    let saved = (used.0 as u64) * (saving.0 as u64);
+    if all <= saved {
+        return Microwatts(0);
+    }
+    Microwatts((all - saved) as u32)
+}
+
+impl Power {
+    // Refusal 19, with the delay as its place.
+    fn off_curve(delay: Ticks) -> Power
+        ensures { λ r. ⌜ r ≡ offCurve (delay .0) ⌝ }
+    {
+        Power::Refused {
+            why: Why::OffCurve,
+            place: delay.0 as usize,
+        }
+    }
+}
+
+impl Slowing {
+    // Some of a run's ticks, or all of them, are used.
+    fn used(self, run: Run) -> Slowing
+        ensures { λ r. ⌜ r ≡ usedOf self run ⌝ }
+    {
+        let left = above(self.left.0, run.length.0);
+        let used = Ticks(self.left.0 - left);
+        Slowing {
+            left: Ticks(left),
+            power: less_saved(self.power, used, run.saving),
+        }
+    }
+}
+
+impl Run {
+    // Whether this is what a place without a run holds.
+    fn is_blank(self) -> bool
+        ensures { λ r. ⌜ r ≡ blankb self ⌝ }
+    {
+        if self.length.0 != 0 {
+            return false;
+        }
+        self.saving.0 == 0
+    }
+
+    // Whether length and saving are within their ranges.
+    fn is_ranged(self) -> bool
+        ensures { λ r. ⌜ r ≡ rangedb self ⌝ }
+    {
+        if self.length.0 < Curve::LENGTH_MIN {
+            return false;
+        }
+        if Curve::LENGTH_MAX < self.length.0 {
+            return false;
+        }
+        if self.saving.0 < Curve::SAVING_MIN {
+            return false;
+        }
+        self.saving.0 <= Curve::SAVING_MAX
+    }
+}
+
 impl Curve {
     pub const FASTEST_MIN: u32 = 1;
 
@@ -27,7 +133,7 @@ impl Curve {
 
     pub const POWER_MAX: u32 = 2000000;
 
-    pub const RUNS_MAX: u32 = 4;
+    pub const RUNS_MAX: usize = 4;
 
     pub const LENGTH_MIN: u32 = 1;
 
@@ -36,4 +142,163 @@ impl Curve {
     pub const SAVING_MIN: u32 = 1;
 
     pub const SAVING_MAX: u32 = 1000;
+
+    // The flat curve: one with no runs.
+    pub fn flat(fastest: Ticks, power: Microwatts) -> Curve
+        ensures { λ r. ⌜ r ≡ flatOf fastest power ⌝ }
+    {
+        let none = Run {
+            length: Ticks(0),
+            saving: Microwatts(0),
+        };
+        Curve {
+            fastest,
+            power,
+            count: 0,
+            runs: [none; 4],
+        }
+    }
+
+    // The slowest delay: the fastest plus all run lengths.
+    pub fn slowest(self) -> Ticks
+        requires { ⌜ Good self ⌝ }
+        ensures { λ r. ⌜ r .0 ≡ slowestOf self ⌝ }
+    {
+        let n = self.count;
+        let mut delay = self.fastest.0;
+        let mut k: usize = 0;
+        while k < n {
+            let run = self.runs[k];
+            delay = delay + run.length.0;
+            k = k + 1;
+        }
+        Ticks(delay)
+    }
+
+    // All savings together.
+    pub fn savings(self) -> Microwatts
+        requires { ⌜ Sized self ⌝ }
+        ensures { λ r. ⌜ r .0 ≡ savingsOf self ⌝ }
+    {
+        let n = self.count;
+        let mut saved: u32 = 0;
+        let mut k: usize = 0;
+        while k < n {
+            let run = self.runs[k];
+            saved = saved + run.length.0 * run.saving.0;
+            k = k + 1;
+        }
+        Microwatts(saved)
+    }
+
+    // The saving of the tick after a delay, 0 from the slowest on.
+    pub fn next_saving(self, delay: Ticks) -> Microwatts
+        ensures { λ r. ⌜ r .0 ≡ nextSavingOf self (delay .0) ⌝ }
+    {
+        let n = lesser(self.count, Self::RUNS_MAX);
+        let mut left = above(delay.0, self.fastest.0);
+        let mut k: usize = 0;
+        while k < n {
+            let run = self.runs[k];
+            if left < run.length.0 {
+                return run.saving;
+            }
+            left = left - run.length.0;
+            k = k + 1;
+        }
+        Microwatts(0)
+    }
+
+    // The saving of the last tick used, 0 past the slowest.
+    pub fn last_saving(self, delay: Ticks) -> Last
+        ensures { λ r. ⌜ r ≡ lastSavingOf self (delay .0) ⌝ }
+    {
+        if delay.0 <= self.fastest.0 {
+            return Last::Unused;
+        }
+        Last::Saving(self.next_saving(Ticks(delay.0 - 1)))
+    }
+
+    // The power at a delay. Ticks that no run takes are past the slowest.
+    pub fn power_at(self, delay: Ticks) -> Power
+        ensures { λ r. ⌜ r ≡ powerAtOf self (delay .0) ⌝ }
+    {
+        let fastest = self.fastest;
+        let refused = Power::off_curve(delay);
+        if delay.0 < fastest.0 {
+            return refused;
+        }
+        let n = lesser(self.count, Self::RUNS_MAX);
+        let power = self.power;
+        let mut slowing = Slowing {
+            left: Ticks(delay.0 - fastest.0),
+            power,
+        };
+        let mut k: usize = 0;
+        while k < n {
+            let next = self.runs[k];
+            slowing = slowing.used(next);
+            k = k + 1;
+        }
+        if 0 < slowing.left.0 {
+            return refused;
+        }
+        let least = slowing.power;
+        Power::At(least)
+    }
+
+    // Whether place k holds a run in range that saves less than the run before it, or is blank past the last run.
+    fn place_is_good(self, k: usize) -> bool
+        requires { ⌜ k < 4 ⌝ }
+        ensures { λ r. ⌜ r ≡ placeb self k ⌝ }
+    {
+        let run = self.runs[k];
+        if self.count <= k {
+            return run.is_blank();
+        }
+        if !run.is_ranged() {
+            return false;
+        }
+        if k == 0 {
+            return true;
+        }
+        let before = self.runs[k - 1];
+        run.saving.0 < before.saving.0
+    }
+
+    fn places_are_good(self) -> bool
+        ensures { λ r. ⌜ r ≡ every 4 (placeb self) ⌝ }
+    {
+        let mut k: usize = 0;
+        while k < Self::RUNS_MAX {
+            if !self.place_is_good(k) {
+                return false;
+            }
+            k = k + 1;
+        }
+        true
+    }
+
+    // Whether this is a curve as 01 asks it to be.
+    pub fn is_good(self) -> bool
+        ensures { λ r. ⌜ r ≡ goodb self ⌝ }
+    {
+        if self.fastest.0 < Self::FASTEST_MIN {
+            return false;
+        }
+        if Self::FASTEST_MAX < self.fastest.0 {
+            return false;
+        }
+        if Self::POWER_MAX < self.power.0 {
+            return false;
+        }
+        if Self::RUNS_MAX < self.count {
+            return false;
+        }
+        if !self.places_are_good() {
+            return false;
+        }
+        let saved = self.savings();
+        saved.0 <= self.power.0
+    }
 }

@@ -1,0 +1,4 @@
+pub mod CurveLaws
+pub mod GoodLaws
+pub mod Ways
+pub mod Case1
