@@ -1,0 +1,4 @@
+pub mod Steps
+pub mod Ascending
+pub mod LinkLaws
+pub mod SameBoard
