@@ -1,0 +1,4 @@
+pub mod TableLaws
+pub mod Loops
+pub mod Rounds
+pub mod TimesLaws
