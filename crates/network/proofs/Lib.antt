@@ -1,1 +1,3 @@
+pub mod Places
 pub mod Pricing
+pub mod Sheets

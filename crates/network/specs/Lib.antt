@@ -2,3 +2,4 @@ pub mod Net
 pub mod Flow
 pub mod Price
 pub mod Crash
+pub mod Sheet

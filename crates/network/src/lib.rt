@@ -4,6 +4,8 @@ ghost use mathlib.Core.Path.{_≡_};
 ghost use Prim.Native.Nat.{min, max, _+_, _≤_, _<_};
 ghost use Rattle.theory.specs.Sum.{cells};
 ghost use Rattle.network.specs.Net.{gainOf, Sound, Bends, Curved};
+ghost use Rattle.network.specs.Flow.{Sheet};
+ghost use Rattle.network.specs.Sheet.{Says, Small, Nodes, Gathered, Agree};
 ghost use Rattle.network.specs.Price.{Prices, Added, RunsTo, Priced, Repriced};
 
 // Nothing is done. An array that is lent as a part tells the proof that calls this how long it is.
@@ -158,4 +160,66 @@ pub fn prices(
         reprice(base, lengths, savings, x, low, high, more, less, a);
         a = a + 1;
     }
+}
+
+// ---- sheets
+// Whether no load is above 64,000.
+fn small(arcs: usize, x: &[u32; 448]) -> bool
+    requires { ⌜ arcs ≤ 448 ⌝ }
+    ensures { λ r. ⌜ Says r (Small arcs (now (x .entry))) ⌝ }
+{
+    let mut a: usize = 0;
+    while a < arcs {
+        if 64000 < x[a] {
+            return false;
+        }
+        a = a + 1;
+    }
+    true
+}
+
+// What the arcs bring to each node at their ends `end`.
+fn gather(arcs: usize, end: &[usize; 448], x: &[u32; 448], sums: &mut [u32; 130])
+    requires { ⌜ arcs ≤ 448 ⌝ }
+    requires { ⌜ Nodes arcs (now end) ⌝ }
+    requires { ⌜ Small arcs (now x) ⌝ }
+    requires { ⌜ Gathered 0 (now end) (now x) (now sums) ⌝ }
+    ensures { λ _. ⌜ Gathered arcs (now (end .entry)) (now (x .entry)) (now (sums .exit)) ⌝ }
+{
+    seen(sums);
+    let mut a: usize = 0;
+    while a < arcs {
+        let v = end[a];
+        sums[v] = sums[v] + x[a];
+        a = a + 1;
+    }
+}
+
+// Whether two sums agree at each node that is a part's.
+fn same(p: &[u32; 130], q: &[u32; 130]) -> bool
+    ensures { λ r. ⌜ Says r (Agree 128 (now (p .entry)) (now (q .entry))) ⌝ }
+{
+    let mut v: usize = 0;
+    while v < 128 {
+        if p[v] != q[v] {
+            return false;
+        }
+        v = v + 1;
+    }
+    true
+}
+
+// Whether the loads are a sheet: none above 64,000, and as much to each part's start and end as from it.
+pub fn conserves(arcs: usize, tail: &[usize; 448], head: &[usize; 448], x: &[u32; 448]) -> bool
+    requires { ⌜ Sound arcs (now tail) (now head) ⌝ }
+    ensures { λ r. ⌜ Says r (Sheet arcs (cells (now (tail .entry))) (cells (now (head .entry))) (cells (now (x .entry)))) ⌝ }
+{
+    if !small(arcs, x) {
+        return false;
+    }
+    let mut to = [0u32; 130];
+    gather(arcs, head, x, &mut to);
+    let mut from = [0u32; 130];
+    gather(arcs, tail, x, &mut from);
+    same(&to, &from)
 }
