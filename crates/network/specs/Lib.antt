@@ -3,3 +3,4 @@ pub mod Flow
 pub mod Price
 pub mod Crash
 pub mod Sheet
+pub mod Kept
