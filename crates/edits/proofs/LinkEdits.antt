@@ -60,8 +60,8 @@ module _ (b : Board) (w : WellFormed b) (from to : ℕ) (may : Addable b from to
   strict : at < b .links → order x < orders b at
   strict h = ⊎-elim
       (λ (e : order x ≡ orders b at).
-        let same : linkAt b at ≡ x = order-same (linkAt b at) x (to-below b w at h) small (sym e) in
-        absurd (may .missing (record { link = at; here = h; from = ap (λ (l : Link). l .from) same; to = ap (λ (l : Link). l .to) same })))
+      let same : linkAt b at ≡ x = order-same (linkAt b at) x (to-below b w at h) small (sym e) in
+      absurd (may .missing (record { link = at; here = h; from = ap (λ (l : Link). l .from) same; to = ap (λ (l : Link). l .to) same })))
       (λ (e : order x ≡ orders b at → ⊥). omega (arith, parts-at .above at (omega arith) h))
       (eq-or-ne (order x) (orders b at))
 
@@ -69,12 +69,12 @@ module _ (b : Board) (w : WellFormed b) (from to : ℕ) (may : Addable b from to
   ascends l h = ⊎-elim
       (λ (s : suc l < at). rw (below l (omega arith), below (suc l) s) (w .ascends l (omega (arith, parts-at .under))))
       (λ (s : at ≤ suc l). ⊎-elim
-        (λ (t : at < suc l). rw (above l (omega (arith, may .room)) (omega arith)) (⊎-elim
-          (λ (e : at ≡ l). subst (λ (k : ℕ). order (linkAt after k) < orders b k) e (rw here (strict (omega arith))))
-          (λ (e : at ≡ l → ⊥). later l h (omega arith))
-          (eq-or-ne at l)))
-        (λ (t : suc l ≤ at). let e : at ≡ suc l = omega arith in rw (below l (omega arith)) (subst (λ (k : ℕ). orders b l < order (linkAt after k)) e (rw here (parts-at .below l (omega arith)))))
-        (lt-or-le at (suc l)))
+      (λ (t : at < suc l). rw (above l (omega (arith, may .room)) (omega arith)) (⊎-elim
+      (λ (e : at ≡ l). subst (λ (k : ℕ). order (linkAt after k) < orders b k) e (rw here (strict (omega arith))))
+      (λ (e : at ≡ l → ⊥). later l h (omega arith))
+      (eq-or-ne at l)))
+      (λ (t : suc l ≤ at). let e : at ≡ suc l = omega arith in rw (below l (omega arith)) (subst (λ (k : ℕ). orders b l < order (linkAt after k)) e (rw here (parts-at .below l (omega arith)))))
+      (lt-or-le at (suc l)))
       (lt-or-le (suc l) at)
     where
       later : (l : ℕ) → suc l < b .links + 1 → at < l → order (linkAt after l) < orders b l
@@ -107,8 +107,8 @@ module _ (b : Board) (w : WellFormed b) (from to : ℕ) (may : Addable b from to
   after-kept p q k = ⊎-elim
       (λ (s : k .link < at). let e = below (k .link) s in record { link = k .link; here = omega (arith, k .here); from = rw e (k .from); to = rw e (k .to) })
       (λ (s : at ≤ k .link).
-        let e = above (k .link) (omega (arith, k .here, may .room)) s in
-        record { link = suc (k .link); here = omega (arith, k .here); from = rw e (k .from); to = rw e (k .to) })
+      let e = above (k .link) (omega (arith, k .here, may .room)) s in
+      record { link = suc (k .link); here = omega (arith, k .here); from = rw e (k .from); to = rw e (k .to) })
       (lt-or-le (k .link) at)
 
   after-only : (p q : ℕ) → Linked after p q → Linked b p q ⊎ Ends p q from to

@@ -31,10 +31,7 @@ pub fn place_of(b: Board, x: Link) -> usize
 pub fn has_link(b: Board, from: usize, to: usize) -> bool
     ensures { λ r. ⌜ r ≡ hasLinkOf b (linkOf from to) ⌝ }
 {
-    let x = Link {
-        from: from,
-        to: to,
-    };
+    let x = Link { from: from, to: to };
     let at = place_of(b, x);
     if b.links <= at {
         return false;
@@ -132,10 +129,7 @@ pub fn with_link(b: Board, from: usize, to: usize) -> Board
     if has_link(b, from, to) {
         return b;
     }
-    let x = Link {
-        from: from,
-        to: to,
-    };
+    let x = Link { from: from, to: to };
     let at = place_of(b, x);
     let old = b.link;
     let new = inserted(old, at, x);
@@ -151,10 +145,7 @@ pub fn without_link(b: Board, from: usize, to: usize) -> Board
     if !has_link(b, from, to) {
         return b;
     }
-    let x = Link {
-        from: from,
-        to: to,
-    };
+    let x = Link { from: from, to: to };
     let at = place_of(b, x);
     let links = b.links;
     let old = b.link;

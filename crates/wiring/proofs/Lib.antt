@@ -3,3 +3,6 @@ pub mod Gains
 pub mod Views
 pub mod Arcs
 pub mod Wiring
+pub mod Bridge
+pub mod Nodes
+pub mod Worlds

@@ -12,7 +12,15 @@ fn seen(s: &[u32]) {}
 fn seen_nodes(s: &[usize]) {}
 
 // Arc `a` goes from one node to another and is `ticks` long at least.
-fn put(tail: &mut [usize; 448], head: &mut [usize; 448], base: &mut [u32; 448], a: usize, from: usize, to: usize, ticks: u32)
+fn put(
+    tail: &mut [usize; 448],
+    head: &mut [usize; 448],
+    base: &mut [u32; 448],
+    a: usize,
+    from: usize,
+    to: usize,
+    ticks: u32,
+)
     requires { ⌜ a < 448 ⌝ }
     ensures { λ _. ⌜ Put a from to ticks (now (tail .entry)) (now (head .entry)) (now (base .entry)) (now (tail .exit)) (now (head .exit)) (now (base .exit)) ⌝ }
 {
@@ -97,7 +105,14 @@ fn lay_runs(b: Board, lengths: &mut [u32; 256], savings: &mut [u32; 256])
 }
 
 // The network of a board. Its number of arcs is returned.
-pub fn wire(b: Board, tail: &mut [usize; 448], head: &mut [usize; 448], base: &mut [u32; 448], lengths: &mut [u32; 256], savings: &mut [u32; 256]) -> usize
+pub fn wire(
+    b: Board,
+    tail: &mut [usize; 448],
+    head: &mut [usize; 448],
+    base: &mut [u32; 448],
+    lengths: &mut [u32; 256],
+    savings: &mut [u32; 256],
+) -> usize
     requires { ⌜ WellFormed b ⌝ }
     ensures { λ r. ⌜ NetworkOf b r (now (tail .exit)) (now (head .exit)) (now (base .exit)) (now (lengths .exit)) (now (savings .exit)) ⌝ }
 {
