@@ -141,7 +141,8 @@ pub fn slow_path(b: Board) -> ShownPath
     let e = t.end;
     let last = last_part(e, parts);
     let ticks = e[last];
-    if ticks <= allowed(b) {
+    let limit = allowed(b);
+    if ticks <= limit {
         let none = all(0);
         return ShownPath {
             slow: false,

@@ -16,16 +16,21 @@ use Rattle.base.proofs.Cases.{finished}
 use Rattle.theory.specs.Sum.{share, cells}
 use Rattle.theory.specs.Budget.{greatest}
 use Rattle.theory.proofs.SumLaws.{share-eq, share-ne}
+use Rattle.curve.specs.Curve.{Good, slowestOf}
 use Rattle.board.specs.declared.Link.{Link}
 use Rattle.board.specs.declared.Board.{Board}
 use Rattle.board.specs.Board.{noLink, curveAt, view, WellFormed}
-use Rattle.times.specs.Times.{table, firsts, fastestsOf, wireOf, arrivalOf, startsOf, endsOf, Joined, Summed, Same}
+use Rattle.times.specs.Times.{table, firsts, fastestsOf, slowestAt, slowestsOf, wireOf, arrivalOf, startsOf, endsOf, Joined, Summed, Same}
 use Rattle.times.proofs.TableLaws.{table-at, table-set, firsts-none, firsts-more, firsts-done}
 
 -- no link takes more than 255 ticks
 pub wire-to : (l : Link) → wireOf l ≤ 255
 unfolding wireOf
 wire-to l = omega arith
+
+pub wire-at : (b : Board) (l : ℕ) → view b .wire l ≤ 255
+unfolding view
+wire-at b l = omega arith
 
 -- an index of 64 places, scaled by the width of an element
 pub scaled : (w i : ℕ) → w ≤ 16 → i < 64 → Fits w64 (i * w)
@@ -91,6 +96,21 @@ module _ (b : Board) (d : List ℕ) where
   pub fastest-done : (k : ℕ) → k ≤ b .parts → b .parts ≤ k → d ≡ firsts k (view b .fastest) → d ≡ fastestsOf b
   unfolding fastestsOf
   fastest-done k = firsts-done _ d k (b .parts)
+
+pub curve-good : (b : Board) → WellFormed b → (k : ℕ) → k < b .parts → Good (curveAt b k)
+curve-good b ok = ok .curves
+
+module _ (b : Board) (d : List ℕ) where
+  pub slowest-none : d ≡ table 64 (λ p. 0) → d ≡ firsts 0 (slowestAt b)
+  slowest-none = firsts-none _ d
+
+  pub slowest-more : WellFormed b → (k : ℕ) → k < b .parts → d ≡ firsts k (slowestAt b) → (v : ℕ) → v ≡ slowestOf (curveAt b k) → set d k v ≡ firsts (k + 1) (slowestAt b)
+  unfolding slowestAt
+  slowest-more ok k h is v new = firsts-more _ d k v (omega (arith, ok .parts-to)) is new
+
+  pub slowest-done : (k : ℕ) → k ≤ b .parts → b .parts ≤ k → d ≡ firsts k (slowestAt b) → d ≡ slowestsOf b
+  unfolding slowestsOf
+  slowest-done k = firsts-done _ d k (b .parts)
 
 -- ---- same
 never : {A : Type 0} → false ≡ true → A

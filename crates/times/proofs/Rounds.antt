@@ -20,7 +20,7 @@ use Rattle.board.specs.Board.{linkAt, view, WellFormed}
 use Rattle.times.specs.declared.Schedule.{Schedule}
 use Rattle.times.specs.Times.{table, wireOf, arrivalOf, startsOf, endsOf, Joined, Summed, Same, Timeable, TimesOf}
 use Rattle.times.proofs.TableLaws.{table-length, table-at, table-past, firsts-at, firsts-past, firsts-room}
-use Rattle.times.proofs.Loops.{wire-to}
+use Rattle.times.proofs.Loops.{wire-at}
 
 -- the ends after some rounds
 unfoldable pub roundOf : List Link → ℕ → ℕ → List ℕ → ℕ → List ℕ
@@ -101,12 +101,8 @@ module _ (b : Board) (delay : List ℕ) (ok : Timeable b delay) where
   after-room zero = table-length 64 _
   after-room (suc i) = ends-room _ delay (b .parts)
 
-  wire-at : (l : ℕ) → view b .wire l ≤ 255
-  unfolding view
-  wire-at l = omega arith
-
   arrive-to : (e : ℕ → ℕ) (m : ℕ) → ((p : ℕ) → e p ≤ m) → (p : ℕ) → arrive (view b) e p ≤ m + 255
-  arrive-to e m to p = arrive-le (view b) e p (m + 255) (λ l k q. omega (arith, to (view b .from l), wire-at l))
+  arrive-to e m to p = arrive-le (view b) e p (m + 255) (λ l k q. omega (arith, to (view b .from l), wire-at b l))
 
   after-to : (i p : ℕ) → cells (ends-after i) p ≤ 2298 * i
   after-to zero p = omega (arith, none-at p)

@@ -30,8 +30,11 @@ firsts n f = table 64 (λ p. pick (ltb p n) (f p) 0)
 unfoldable pub fastestsOf : Board → List ℕ
 fastestsOf b = firsts (b .parts) (view b .fastest)
 
+unfoldable pub slowestAt : Board → ℕ → ℕ
+slowestAt b p = slowestOf (curveAt b p)
+
 unfoldable pub slowestsOf : Board → List ℕ
-slowestsOf b = firsts (b .parts) (λ p. slowestOf (curveAt b p))
+slowestsOf b = firsts (b .parts) (slowestAt b)
 
 -- "A link has no delay."
 unfoldable pub wireOf : Link → ℕ

@@ -4,7 +4,7 @@ use board::Link;
 ghost use mathlib.Core.Path.{_≡_};
 ghost use Prim.Native.Nat.{max};
 ghost use Rattle.board.specs.Board.{WellFormed};
-ghost use Rattle.times.specs.Times.{table, fastestsOf, wireOf, startsOf, endsOf, Joined, Summed, Same, Timeable, TimesOf};
+ghost use Rattle.times.specs.Times.{table, fastestsOf, slowestsOf, wireOf, startsOf, endsOf, Joined, Summed, Same, Timeable, TimesOf};
 
 // The start and the end of each part; places without a part hold 0.
 pub struct Schedule {
@@ -19,13 +19,13 @@ pub fn wire(l: Link) -> u32
     0
 }
 
-pub fn larger(a: u32, b: u32) -> u32
+fn larger(a: u32, b: u32) -> u32
     ensures { λ r. ⌜ r ≡ max a b ⌝ }
 {
     if a < b { b } else { a }
 }
 
-pub fn zeros() -> [u32; 64]
+fn zeros() -> [u32; 64]
     ensures { λ r. ⌜ r ≡ table 64 (λ p. 0) ⌝ }
 {
     [0u32; 64]
@@ -41,6 +41,23 @@ pub fn fastest_delays(b: Board) -> [u32; 64]
     let mut k: usize = 0;
     while k < n {
         d[k] = b.curve[k].fastest.0;
+        k = k + 1;
+    }
+    d
+}
+
+// Each part's delay at its slowest.
+pub fn slowest_delays(b: Board) -> [u32; 64]
+    requires { ⌜ WellFormed b ⌝ }
+    ensures { λ r. ⌜ r ≡ slowestsOf b ⌝ }
+{
+    let n = b.parts;
+    let mut d = zeros();
+    let mut k: usize = 0;
+    while k < n {
+        let c = b.curve[k];
+        let slowest = c.slowest();
+        d[k] = slowest.0;
         k = k + 1;
     }
     d
