@@ -11,10 +11,12 @@ use lib.ListN.{getD}
 use borrow.Author.Tests.{lt-ltb, le-ltb, le-leb, lt-leb, eq-eqb, ne-eqb, ltb-true, ltb-false, leb-true, leb-false, eqb-true, eqb-false}
 use Rattle.base.specs.Pick.{pick}
 use Rattle.base.proofs.Cases.{lt-or-le}
+use Rattle.curve.specs.Tests.{both}
+use Rattle.curve.proofs.GoodLaws.{every-at, every-all}
 use Rattle.board.specs.declared.Link.{Link}
 use Rattle.board.specs.declared.Board.{Board}
 use Rattle.board.specs.Board.{WellFormed, linkAt, noLink, order}
-use Rattle.board.specs.Test.{both, every, belowOf, linkHeld, linkBlank, linkTest, linksTest}
+use Rattle.board.specs.Tests.{belowOf, linkHeld, linkBlank, linkTest, linksTest}
 
 -- ---- tests
 pub clash : {A : Type 0} → false ≡ true → A
@@ -30,19 +32,6 @@ pub both-hold : (t u : Bool) → both t u ≡ true → (t ≡ true) × (u ≡ tr
 unfolding pick
 both-hold true u e = (refl, e)
 both-hold false u e = clash e
-
-pub every-at : (n : ℕ) (test : ℕ → Bool) → every n test ≡ true → (k : ℕ) → k < n → test k ≡ true
-unfolding every
-every-at zero test e k h = absurd (omega arith)
-every-at (suc n) test e k h = elim (ℕ-discrete k n) [
-  | yes same ↦ rw same (both-hold (every n test) (test n) e .1)
-  | no other ↦ every-at n test (both-hold (every n test) (test n) e .0) k (omega arith)
-]
-
-pub every-so : (n : ℕ) (test : ℕ → Bool) → ((k : ℕ) → k < n → test k ≡ true) → every n test ≡ true
-unfolding every pick
-every-so zero test h = refl
-every-so (suc n) test h = rw (every-so n test (λ k l. h k (omega arith)), h n (omega arith))
 
 -- ---- two links are one where their ends are
 pub link-same : (a x : Link) → a .from ≡ x .from → a .to ≡ x .to → a ≡ x
@@ -94,11 +83,11 @@ one-less l = omega arith
 module _ (b : Board) (few : b .parts ≤ 64) (good : linksTest b ≡ true) where
   pub held-of : (l : ℕ) → l < b .links → l < 256 → LinkHeld b l
   unfolding linksTest linkTest pick
-  held-of l h r = held-passed b l (rw (lt-ltb l (b .links) h) at (every-at 256 (linkTest b) good l r))
+  held-of l h r = held-passed b l (rw (lt-ltb l (b .links) h) at (every-at (linkTest b) 256 good l r))
 
   pub blank-of : (l : ℕ) → b .links ≤ l → l < 256 → linkAt b l ≡ noLink
   unfolding linksTest linkTest pick
-  blank-of l h r = blank-passed (linkAt b l) (rw (le-ltb l (b .links) h) at (every-at 256 (linkTest b) good l r))
+  blank-of l h r = blank-passed (linkAt b l) (rw (le-ltb l (b .links) h) at (every-at (linkTest b) 256 good l r))
 
   pub ascends-of : (l : ℕ) → suc l < b .links → suc l < 256 → order (linkAt b l) < order (linkAt b (suc l))
   unfolding pick
@@ -123,4 +112,4 @@ module _ (b : Board) (w : WellFormed b) where
 
   pub links-pass : linksTest b ≡ true
   unfolding linksTest
-  links-pass = every-so 256 (linkTest b) link-passes
+  links-pass = every-all (linkTest b) 256 link-passes

@@ -1,11 +1,11 @@
 // The board by value: a deadline, parts with their curves, and links in ascending order of from, then to.
 ghost use mathlib.Core.Path.{_≡_};
 ghost use Prim.Native.Nat.{_<_};
-ghost use Rattle.board.specs.Board.{blankCurve};
-ghost use Rattle.board.specs.Test.{blankCurves, blankLinks, emptyOf, belowOf, both, linkBlank, linkHeld, linkTest, linksTest};
+ghost use Rattle.curve.specs.Tests.{both};
+ghost use Rattle.board.specs.Board.{blankCurve, WellFormed};
+ghost use Rattle.board.specs.Tests.{Decides, blankCurves, blankLinks, emptyOf, belowOf, linkBlank, linkHeld, linkTest, linksTest, curveBlank, curveTest, curvesTest};
 use curve::Curve;
 use curve::Microwatts;
-use curve::Run;
 use curve::Ticks;
 
 pub struct Link {
@@ -26,16 +26,7 @@ pub struct Board {
 pub fn blank_curve() -> Curve
     ensures { λ r. ⌜ r ≡ blankCurve ⌝ }
 {
-    let none = Run {
-        length: Ticks(0),
-        saving: Microwatts(0),
-    };
-    Curve {
-        fastest: Ticks(0),
-        power: Microwatts(0),
-        count: 0,
-        runs: [none; 4],
-    }
+    Curve::flat(Ticks(0), Microwatts(0))
 }
 
 // All places without a part.
@@ -148,4 +139,73 @@ fn links_good(b: Board) -> bool
         l = l + 1;
     }
     good
+}
+
+// Whether this is what a place without a part holds. With no runs, a curve of a fastest delay is good exactly when all its places are blank.
+fn curve_blank(c: Curve) -> bool
+    ensures { λ r. ⌜ r ≡ curveBlank c ⌝ }
+{
+    if 0 < c.fastest.0 {
+        return false;
+    }
+    if 0 < c.power.0 {
+        return false;
+    }
+    if 0 < c.count {
+        return false;
+    }
+    let tick = Ticks(1);
+    let mut flat = c;
+    flat.fastest = tick;
+    flat.is_good()
+}
+
+// Whether place p of the curves holds what it should.
+fn curve_good(b: Board, p: usize) -> bool
+    requires { ⌜ p < 64 ⌝ }
+    ensures { λ r. ⌜ r ≡ curveTest b p ⌝ }
+{
+    let c = b.curve[p];
+    if p < b.parts {
+        return c.is_good();
+    }
+    curve_blank(c)
+}
+
+// Whether every place of the curves does.
+fn curves_good(b: Board) -> bool
+    ensures { λ r. ⌜ r ≡ curvesTest b ⌝ }
+{
+    let mut good = true;
+    let mut p: usize = 0;
+    while p < 64 {
+        good = both_hold(good, curve_good(b, p));
+        p = p + 1;
+    }
+    good
+}
+
+// Whether this is a board as 01 asks it to be, but for loops.
+pub fn well_formed(b: Board) -> bool
+    ensures { λ r. ⌜ Decides r (WellFormed b) ⌝ }
+{
+    if b.deadline.0 < 1 {
+        return false;
+    }
+    if 4095 < b.deadline.0 {
+        return false;
+    }
+    if b.parts < 1 {
+        return false;
+    }
+    if 64 < b.parts {
+        return false;
+    }
+    if 256 < b.links {
+        return false;
+    }
+    if !curves_good(b) {
+        return false;
+    }
+    links_good(b)
 }

@@ -1,7 +1,7 @@
 -- 01, Boards to try, case 1: "K's part 0 at 2, 3, 4, 5 costs 100, 80, 60, 55; at 1 and 6 refusal 19."
 -- Assumes nothing.
 use mathlib.Core.Path.{_≡_, refl}
-use mathlib.Core.List.{List, [], _∷_}
+use mathlib.Core.List.{[], _∷_}
 use Prim.Native.Nat.{ℕ}
 use Rattle.base.specs.Pick.{pick}
 use Rattle.theory.specs.Sum.{sum}

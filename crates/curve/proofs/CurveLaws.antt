@@ -7,14 +7,14 @@ use Prim.Native.Nat.{ℕ, zero, suc, _+_, _*_, _-_, _≤_, _<_, min}
 use native.Mathlib.Decide.{decLt}
 use native.Mathlib.Nat.{mul-le-mul}
 use native.Mathlib.Omega.{arith}
-use lib.ListN.{length, getD, List·getD-eq-default, getD-replicate}
+use lib.ListN.{length, List·getD-eq-default, getD-replicate}
 use lib.Seq.{ext-getD}
 use borrow.Author.Tests.{lt-ltb, le-ltb}
 use Rattle.base.specs.Pick.{pick}
 use Rattle.base.proofs.Cases.{lt-or-le}
 use Rattle.theory.specs.Sum.{sum}
 use Rattle.theory.specs.Saving.{saves, before, tick, Falling}
-use Rattle.theory.proofs.SumLaws.{sum-le, sum-ext, sum-mono, sum-const, sum-zero, sum-split}
+use Rattle.theory.proofs.SumLaws.{sum-le, sum-ext, sum-const, sum-zero, sum-split}
 use Rattle.theory.proofs.SavingLaws.{saves-most}
 use Rattle.theory.proofs.RunLaws.{tick-past, tick-falls, sum-runs}
 use Rattle.curve.specs.declared.Ticks.{Ticks}

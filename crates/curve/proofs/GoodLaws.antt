@@ -6,7 +6,7 @@ use mathlib.Core.Logic.{⊎-elim}
 use Prim.Native.Nat.{ℕ, zero, suc, _+_, _-_, _≤_, _<_}
 use native.Mathlib.Omega.{arith}
 use native.Mathlib.Numerals.{add-one}
-use lib.Dec.{ltb, leb, eqb}
+use lib.Dec.{ltb, eqb}
 use lib.ListN.{length}
 use borrow.Author.Tests.{not-false, ltb-true, leb-true, eqb-true, lt-ltb, le-leb, lt-leb, eq-eqb, ne-eqb}
 use Rattle.base.specs.Pick.{pick}
@@ -14,7 +14,7 @@ use Rattle.base.proofs.Cases.{lt-or-le}
 use Rattle.theory.proofs.SumLaws.{below-suc}
 use Rattle.curve.specs.declared.Run.{Run}
 use Rattle.curve.specs.declared.Curve.{Curve}
-use Rattle.curve.specs.Curve.{noRun, runAt, lengthAt, savingAt, savingsOf, Good}
+use Rattle.curve.specs.Curve.{noRun, runAt, lengthAt, savingAt, Good}
 use Rattle.curve.specs.Tests.{both, every, blankb, rangedb, placeb, goodb, Sized}
 
 -- ---- both of two tests, and a test at every number below n

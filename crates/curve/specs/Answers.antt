@@ -1,7 +1,6 @@
 -- What is asked of a curve, and its answers: the flat curve, the saving of a tick by its delay, the power at a delay or its refusal.
 -- Assumes nothing.
-use mathlib.Core.List.{List}
-use Prim.Native.Nat.{ℕ, _+_, _*_, _-_, min}
+use Prim.Native.Nat.{ℕ, _*_, _-_, min}
 use lib.Dec.{ltb, leb}
 use lib.ListN.{replicate}
 use Rattle.base.specs.Pick.{pick}

@@ -12,7 +12,7 @@ use Rattle.board.specs.declared.Link.{Link}
 use Rattle.board.specs.declared.Board.{Board}
 use Rattle.board.specs.Board.{WellFormed, Linked, linkAt, noLink, order}
 use Rattle.board.proofs.LinkLaws.{order-same}
-use Rattle.board.proofs.Ascending.{Parted, rises}
+use Rattle.board.proofs.Ascending.{Parted, rises, rises-le}
 use Rattle.board.proofs.SameBoard.{orders, to-below}
 use Rattle.edits.specs.Edits.{linkOf, placeOf, insertedOf, removedOf, withLinkOf, withoutLinkOf}
 use Rattle.edits.specs.Changes.{Ends, Addable, LinksOnly, LinkAdded, LinkRemoved}
@@ -136,3 +136,143 @@ module _ (b : Board) (w : WellFormed b) (from to : ℕ) (may : Addable b from to
 
   pub with-link-added : LinkAdded b (withLinkOf b from to) from to
   with-link-added = subst (λ (c : Board). LinkAdded b c from to) is-after after-added
+
+-- ---- a link above all others comes last
+module _ (b : Board) (w : WellFormed b) (from to : ℕ) (top : (l : ℕ) → l < b .links → orders b l < order (linkOf from to)) where
+  pub top-missing : Linked b from to → ⊥
+  top-missing k = omega (arith, top (k .link) (k .here), k .from, k .to)
+
+  module _ (may : Addable b from to) where
+    last : placeOf b (linkOf from to) ≡ b .links
+    last =
+        let p = parts-at b w from to may in
+        ⊎-elim
+        (λ (h : placeOf b (linkOf from to) < b .links). absurd (omega (arith, p .above (placeOf b (linkOf from to)) (omega arith) h, top (placeOf b (linkOf from to)) h)))
+        (λ (h : b .links ≤ placeOf b (linkOf from to)). omega (arith, p .under))
+        (lt-or-le (placeOf b (linkOf from to)) (b .links))
+
+    pub top-kept : (l : ℕ) → l < b .links → linkAt (withLinkOf b from to) l ≡ linkAt b l
+    top-kept l h = subst (λ (c : Board). linkAt c l ≡ linkAt b l) (is-after b w from to may) (below b w from to may l (omega (arith, last)))
+
+    pub top-last : linkAt (withLinkOf b from to) (b .links) ≡ linkOf from to
+    top-last =
+        subst (λ (c : Board). linkAt c (b .links) ≡ linkOf from to) (is-after b w from to may)
+        (subst (λ (k : ℕ). linkAt (after b w from to may) k ≡ linkOf from to) last (here b w from to may))
+
+-- what stands above the last link stands above all
+pub above-last : (b : Board) → WellFormed b → (m v : ℕ) → b .links ≡ suc m → orders b m < v → (l : ℕ) → l < b .links → orders b l < v
+above-last b w m v e h l s = omega (arith, rises-le (b .links) (orders b) (w .ascends) l m (omega arith) (omega arith))
+
+-- ---- a link less
+module _ (b : Board) (w : WellFormed b) (from to : ℕ) (there : Linked b from to) where
+  abbrev out : ℕ
+  out = placeOf b (linkOf from to)
+
+  abbrev left : Board
+  left = linked b (b .links - 1) (removedOf (b .link) out)
+
+  out-is : out ≡ there .link
+  out-is = linked-place b w from to there
+
+  before : (k : ℕ) → k < out → linkAt left k ≡ linkAt b k
+  before k h = removed-below (b .link) (w .link-room) out k (omega (arith, out-is, there .here, w .links-to)) h
+
+  beyond : (k : ℕ) → k < 256 → out ≤ k → linkAt left k ≡ linkAt b (suc k)
+  beyond k h l = removed-above (b .link) (w .link-room) out k h l
+
+  -- where a link that is left stood
+  record Came (l : ℕ) : Type 0 where
+    pub at : ℕ
+    pub here : at < b .links
+    pub other : at ≢ out
+    pub is : linkAt left l ≡ linkAt b at
+
+  came : (l : ℕ) → l < b .links - 1 → Came l
+  came l h = ⊎-elim
+      (λ (s : l < out). record { at = l; here = omega arith; other = λ e. omega arith; is = before l s })
+      (λ (s : out ≤ l). record { at = suc l; here = omega arith; other = λ e. omega arith; is = beyond l (omega (arith, w .links-to)) s })
+      (lt-or-le l out)
+
+  each-left : (P : Link → Type 0) → ((l : ℕ) → l < b .links → P (linkAt b l)) → (l : ℕ) → l < b .links - 1 → P (linkAt left l)
+  each-left P old l h = let c = came l h in rw (c .is) (old (c .at) (c .here))
+
+  left-ascends : (l : ℕ) → suc l < b .links - 1 → order (linkAt left l) < order (linkAt left (suc l))
+  left-ascends l h = ⊎-elim
+      (λ (s : suc l < out). rw (before l (omega arith), before (suc l) s) (w .ascends l (omega arith)))
+      (λ (s : out ≤ suc l). rw (beyond (suc l) (omega (arith, w .links-to)) s) (⊎-elim
+      (λ (t : l < out). rw (before l t) (rises (b .links) (orders b) (w .ascends) l (suc (suc l)) (omega arith) (omega arith)))
+      (λ (t : out ≤ l). rw (beyond l (omega (arith, w .links-to)) t) (w .ascends (suc l) (omega arith)))
+      (lt-or-le l out)))
+      (lt-or-le (suc l) out)
+
+  left-blank : (l : ℕ) → b .links - 1 ≤ l → l < 256 → linkAt left l ≡ noLink
+  left-blank l h r = beyond l r (omega (arith, out-is, there .here)) ∙ ⊎-elim
+      (λ (s : suc l < 256). w .blank-links (suc l) (omega arith) s)
+      (λ (s : 256 ≤ suc l). List·getD-eq-default (b .link) noLink {n = suc l} (rw (w .link-room) s))
+      (lt-or-le (suc l) 256)
+
+  left-well : WellFormed left
+  left-well = record {
+    deadline-from = w .deadline-from;
+    deadline-to = w .deadline-to;
+    parts-from = w .parts-from;
+    parts-to = w .parts-to;
+    curves = w .curves;
+    links-to = omega (arith, w .links-to);
+    from-in = each-left (λ l. l .from < b .parts) (w .from-in);
+    to-in = each-left (λ l. l .to < b .parts) (w .to-in);
+    apart = each-left (λ l. l .from ≢ l .to) (w .apart);
+    ascends = left-ascends;
+    blank-curves = w .blank-curves;
+    blank-links = left-blank;
+    curve-room = w .curve-room;
+    link-room = removed-length (b .link) (w .link-room) out;
+  }
+
+  -- two links with the same ends stand at one place
+  left-gone : Linked left from to → ⊥
+  left-gone k =
+      let c = came (k .link) (k .here) in
+      let f = ap (λ (l : Link). l .from) (c .is) in
+      let t = ap (λ (l : Link). l .to) (c .is) in
+      c .other (sym (linked-place b w from to (record { link = c .at; here = c .here; from = sym f ∙ k .from; to = sym t ∙ k .to })))
+
+  left-only : (p q : ℕ) → Linked left p q → Linked b p q
+  left-only p q k =
+      each-left (λ l. l .from ≡ p → l .to ≡ q → Linked b p q) (λ l h f t. record { link = l; here = h; from = f; to = t })
+      (k .link) (k .here) (k .from) (k .to)
+
+  left-kept : (p q : ℕ) → Linked b p q → (Ends p q from to → ⊥) → Linked left p q
+  left-kept p q k ne = ⊎-elim
+      (λ (s : k .link < out). let e = before (k .link) s in record { link = k .link; here = omega (arith, out-is, there .here); from = rw e (k .from); to = rw e (k .to) })
+      (λ (s : out ≤ k .link). later (k .link) (k .here) (k .from) (k .to) s)
+      (lt-or-le (k .link) out)
+    where
+      same : (l : ℕ) → l ≡ there .link → linkAt b l .from ≡ p → linkAt b l .to ≡ q → Ends p q from to
+      same l e f t = record { starts = sym f ∙ rw e (there .from); ends = sym t ∙ rw e (there .to) }
+
+      later : (l : ℕ) → l < b .links → linkAt b l .from ≡ p → linkAt b l .to ≡ q → out ≤ l → Linked left p q
+      later zero h f t s = absurd (ne (same zero (omega (arith, out-is)) f t))
+      later (suc l) h f t s = ⊎-elim
+          (λ (r : l < out). absurd (ne (same (suc l) (omega (arith, out-is)) f t)))
+          (λ (r : out ≤ l). let e = beyond l (omega (arith, w .links-to)) r in record { link = l; here = omega arith; from = rw e f; to = rw e t })
+          (lt-or-le l out)
+
+  left-removed : LinkRemoved b left from to
+  left-removed = record {
+    rest = record { deadline = refl; parts = refl; curve = refl };
+    count = omega (arith, there .here);
+    gone = left-gone;
+    kept = left-kept;
+    only = left-only;
+  }
+
+  is-left : left ≡ withoutLinkOf b from to
+  is-left = link-removed b from to true (sym (linked-has b w from to there)) out (removedOf (b .link) out) refl refl refl
+
+  -- a board with one link less is well formed, and has exactly that one less
+  pub without-link-well : WellFormed (withoutLinkOf b from to)
+  without-link-well = subst WellFormed is-left left-well
+
+  pub without-link-removed : LinkRemoved b (withoutLinkOf b from to) from to
+  without-link-removed = subst (λ (c : Board). LinkRemoved b c from to) is-left left-removed

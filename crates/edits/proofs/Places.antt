@@ -19,7 +19,7 @@ use Rattle.theory.specs.Sum.{sum}
 use Rattle.board.specs.declared.Link.{Link}
 use Rattle.board.specs.declared.Board.{Board}
 use Rattle.board.specs.Board.{WellFormed, Linked, linkAt, noLink, order}
-use Rattle.board.specs.Test.{Decides, belowOf}
+use Rattle.board.specs.Tests.{Decides, belowOf}
 use Rattle.board.proofs.LinkLaws.{clash, below-one, below-none, both-hold}
 use Rattle.board.proofs.Ascending.{Parted, parted, rises}
 use Rattle.board.proofs.SameBoard.{orders, to-below}

@@ -2,12 +2,12 @@
 -- Assumes nothing.
 use mathlib.Core.Path.{_≡_, refl, sym, ap, _∙_}
 use mathlib.Core.Bool.{Bool, true, false, not}
-use mathlib.Core.List.{List, map}
+use mathlib.Core.List.{List}
 use Prim.Native.Nat.{ℕ, zero, suc, _+_, _*_, _-_, _≤_, _<_}
 use native.Mathlib.Omega.{arith}
 use native.Mathlib.Numerals.{add-one}
 use lib.Dec.{ltb, leb, eqb, lit≤}
-use lib.ListN.{length, getD, set, length-map, List·getD-eq-default}
+use lib.ListN.{length, getD, set, List·getD-eq-default}
 use lib.Seq.{set-out}
 use borrow.Author.Tests.{lt-ltb, le-ltb, le-leb, lt-leb, eq-eqb, ne-eqb, ltb-true, not-true, not-false}
 use mathlib.Core.Logic.{⊎-elim}
@@ -20,7 +20,7 @@ use Rattle.curve.specs.declared.Curve.{Curve}
 use Rattle.board.specs.declared.Link.{Link}
 use Rattle.board.specs.declared.Board.{Board}
 use Rattle.board.specs.Board.{linkAt, noLink}
-use Rattle.board.specs.Test.{belowOf}
+use Rattle.board.specs.Tests.{belowOf}
 use Rattle.board.proofs.LinkLaws.{clash}
 use Rattle.edits.specs.Edits.{linkOf, countBefore, placeOf, hasLinkOf, filled, insertedAt, insertedOf, removedAt, removedOf, addable, withCurveOf, withLinkOf, withoutLinkOf}
 
@@ -102,10 +102,6 @@ module _ (b : Board) (p : ℕ) (c : Curve) where
   pub new-curve : p < b .parts → record { deadline = b .deadline; parts = b .parts; curve = set (b .curve) p c; links = b .links; link = b .link } ≡ withCurveOf b p c
   unfolding withCurveOf pick
   new-curve l = rw (lt-ltb _ _ l)
-
--- an array of structs is as long as what stands in memory for it
-pub length-mapped : (X Y : Type 0) (f : X → Y) (l : List X) (n : ℕ) → length (map f l) ≡ n → length l ≡ n
-length-mapped X Y f l n e = sym (length-map l f) ∙ e
 
 -- ---- has_link
 module _ (b : Board) (from to at : ℕ) (is : at ≡ placeOf b (linkOf from to)) where

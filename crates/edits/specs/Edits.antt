@@ -13,7 +13,7 @@ use Rattle.curve.specs.declared.Curve.{Curve}
 use Rattle.board.specs.declared.Link.{Link}
 use Rattle.board.specs.declared.Board.{Board}
 use Rattle.board.specs.Board.{linkAt, noLink}
-use Rattle.board.specs.Test.{belowOf}
+use Rattle.board.specs.Tests.{belowOf}
 
 abbrev pub linkOf : ℕ → ℕ → Link
 linkOf from to = record { from = from; to = to }

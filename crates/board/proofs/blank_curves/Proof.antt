@@ -1,5 +1,5 @@
 use Rattle.board.proofs.Steps.{all-blank}
-use Rattle.board.specs.Test.{blankCurves}
+use Rattle.board.specs.Tests.{blankCurves}
 use borrow.Author.Needs.{needs}
 use Rattle.board.proofs.blank_curves.Statement.{statement}
 use Rattle.board.proofs.blank_curves.Tie as tie

@@ -1,5 +1,5 @@
 use mathlib.Core.Path.{refl}
-use Rattle.board.specs.Test.{blankLinks}
+use Rattle.board.specs.Tests.{blankLinks}
 use borrow.Author.Needs.{needs}
 use Rattle.board.proofs.blank_links.Statement.{statement}
 use Rattle.board.proofs.blank_links.Tie as tie

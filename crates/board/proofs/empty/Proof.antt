@@ -1,5 +1,5 @@
 use Rattle.board.proofs.Steps.{emptied}
-use Rattle.board.specs.Test.{emptyOf}
+use Rattle.board.specs.Tests.{emptyOf}
 use borrow.Author.Needs.{needs}
 use Rattle.board.proofs.empty.Statement.{statement}
 use Rattle.board.proofs.empty.Tie as tie

@@ -1,5 +1,5 @@
 use Rattle.board.proofs.Steps.{in-order}
-use Rattle.board.specs.Test.{linkHeld}
+use Rattle.board.specs.Tests.{linkHeld}
 use Rattle.base.specs.Pick.{pick}
 use Rattle.base.proofs.Tests.{tests}
 use borrow.Author.Needs.{needs}

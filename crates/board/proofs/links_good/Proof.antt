@@ -1,6 +1,7 @@
 use mathlib.Core.Path.{_≡_}
 use Prim.Native.Nat.{_≤_, _-_}
-use Rattle.board.specs.Test.{every, linkTest, linksTest}
+use Rattle.board.specs.Tests.{linkTest, linksTest}
+use Rattle.curve.specs.Tests.{every}
 use Rattle.board.proofs.Steps.{none-tested, one-more, all-tested}
 use borrow.Author.Needs.{needs}
 use Rattle.board.proofs.links_good.Statement.{statement}

@@ -1,4 +1,5 @@
-use Rattle.edits.proofs.Ways.{no-part, no-place, new-curve, length-mapped}
+use Rattle.edits.proofs.Ways.{no-part, no-place, new-curve}
+use Rattle.board.proofs.Steps.{length-mapped}
 use borrow.Author.Needs.{needs}
 use Rattle.edits.proofs.with_curve.Statement.{statement}
 use Rattle.edits.proofs.with_curve.Tie as tie

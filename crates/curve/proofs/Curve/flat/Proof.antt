@@ -2,7 +2,6 @@
 -- Assumes nothing.
 use mathlib.Core.Path.{refl}
 use Rattle.curve.specs.Answers.{flatOf}
-use borrow.Author.Needs.{needs}
 use Rattle.curve.proofs.Curve.flat.Statement.{statement}
 use Rattle.curve.proofs.Curve.flat.Tie as tie
 use Rattle.curve.proofs.Curve.flat.Reads as reads

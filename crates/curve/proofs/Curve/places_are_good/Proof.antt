@@ -1,7 +1,7 @@
 -- `curve::Curve::places_are_good` meets its contract. The loop: the first k places passed the test.
 -- Assumes nothing.
 use mathlib.Core.Path.{_≡_}
-use Prim.Native.Nat.{_≤_, _+_, _-_}
+use Prim.Native.Nat.{_≤_, _-_}
 use mathlib.Core.Bool.{true}
 use Rattle.curve.specs.Tests.{every, placeb}
 use Rattle.curve.proofs.GoodLaws.{every-none, every-more}

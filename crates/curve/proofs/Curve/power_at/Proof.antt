@@ -2,7 +2,7 @@
 -- Assumes nothing.
 use lib.ListN.{length}
 use mathlib.Core.Path.{_≡_}
-use Prim.Native.Nat.{_≤_, _+_, _-_}
+use Prim.Native.Nat.{_≤_, _-_}
 use Rattle.curve.proofs.Ways.{room-of, slowedTo, slowed-none, slowed-more, below-fastest, past-slowest, on-curve}
 use borrow.Author.Needs.{needs}
 use Rattle.curve.proofs.Curve.power_at.Statement.{statement}

@@ -1,7 +1,7 @@
 -- `curve::Curve::savings` meets its contract. The loop: what the first k runs save.
 -- Assumes nothing.
 use mathlib.Core.Path.{_≡_}
-use Prim.Native.Nat.{_≤_, _+_, _-_}
+use Prim.Native.Nat.{_≤_, _-_}
 use Rattle.curve.proofs.Ways.{savedTo, saved-none, run-fits, saved-fits, saved-more, saved-done}
 use borrow.Author.Needs.{needs}
 use Rattle.curve.proofs.Curve.savings.Statement.{statement}

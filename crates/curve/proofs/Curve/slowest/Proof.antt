@@ -1,7 +1,7 @@
 -- `curve::Curve::slowest` meets its contract. The loop: after k runs the delay is the fastest plus their lengths.
 -- Assumes nothing.
 use mathlib.Core.Path.{_≡_}
-use Prim.Native.Nat.{_≤_, _+_, _-_}
+use Prim.Native.Nat.{_≤_, _-_}
 use Rattle.curve.proofs.Ways.{slowTo, slow-none, slow-fits, slow-more, slow-done}
 use borrow.Author.Needs.{needs}
 use Rattle.curve.proofs.Curve.slowest.Statement.{statement}

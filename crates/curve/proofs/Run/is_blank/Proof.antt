@@ -3,7 +3,6 @@
 use Rattle.base.specs.Pick.{pick}
 use Rattle.base.proofs.Tests.{tests}
 use Rattle.curve.specs.Tests.{blankb}
-use borrow.Author.Needs.{needs}
 use Rattle.curve.proofs.Run.is_blank.Statement.{statement}
 use Rattle.curve.proofs.Run.is_blank.Tie as tie
 use Rattle.curve.proofs.Run.is_blank.Reads as reads

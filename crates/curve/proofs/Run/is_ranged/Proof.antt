@@ -3,7 +3,6 @@
 use Rattle.base.specs.Pick.{pick}
 use Rattle.base.proofs.Tests.{tests}
 use Rattle.curve.specs.Tests.{rangedb}
-use borrow.Author.Needs.{needs}
 use Rattle.curve.proofs.Run.is_ranged.Statement.{statement}
 use Rattle.curve.proofs.Run.is_ranged.Tie as tie
 use Rattle.curve.proofs.Run.is_ranged.Reads as reads

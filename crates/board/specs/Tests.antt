@@ -1,4 +1,4 @@
--- What the functions of this crate give: an empty board, and the tests that decide whether a board is well formed (proofs/TestLaws).
+-- What the functions of this crate give: an empty board, and the tests that decide whether a board is well formed (proofs/TestLaws says that they do).
 -- Assumes nothing.
 use mathlib.Core.Path.{_≡_}
 use mathlib.Core.Bool.{Bool, true, false}
@@ -7,6 +7,7 @@ use Prim.Native.Nat.{ℕ, zero, suc, _-_}
 use lib.Dec.{ltb, leb, eqb}
 use lib.ListN.{replicate}
 use Rattle.base.specs.Pick.{pick}
+use Rattle.curve.specs.Tests.{every, goodb}
 use Rattle.curve.specs.declared.Ticks.{Ticks}
 use Rattle.curve.specs.declared.Curve.{Curve}
 use Rattle.board.specs.declared.Link.{Link}
@@ -35,14 +36,6 @@ belowOf a x =
     pick (ltb (x .from) (a .from)) 0 (
     pick (ltb (a .to) (x .to)) 1 0))
 
-abbrev pub both : Bool → Bool → Bool
-both a b = pick a b false
-
--- a test passes at each number below n
-unfoldable pub every : ℕ → (ℕ → Bool) → Bool
-every zero p = true
-every (suc n) p = both (every n p) (p n)
-
 -- link l joins two parts and stands above the one before it
 unfoldable pub linkHeld : Board → ℕ → Bool
 linkHeld b l =
@@ -59,3 +52,19 @@ linkTest b l = pick (ltb l (b .links)) (linkHeld b l) (linkBlank (linkAt b l))
 
 unfoldable pub linksTest : Board → Bool
 linksTest b = every 256 (linkTest b)
+
+-- a place without a part: no delay, no power and no runs. With a fastest delay in its place it is a good curve exactly when no place holds a run.
+abbrev pub quickened : Curve → Curve
+quickened c = record { fastest = record { 0 = 1 }; power = c .power; count = c .count; runs = c .runs }
+
+unfoldable pub curveBlank : Curve → Bool
+curveBlank c =
+    pick (ltb 0 (c .fastest .0)) false (
+    pick (ltb 0 (c .power .0)) false (
+    pick (ltb 0 (c .count)) false (goodb (quickened c))))
+
+unfoldable pub curveTest : Board → ℕ → Bool
+curveTest b p = pick (ltb p (b .parts)) (goodb (curveAt b p)) (curveBlank (curveAt b p))
+
+unfoldable pub curvesTest : Board → Bool
+curvesTest b = every 64 (curveTest b)
