@@ -1,6 +1,5 @@
 pub mod Laying
 pub mod Gains
-pub mod Views
 pub mod Arcs
 pub mod Wiring
 pub mod Bridge

@@ -18,7 +18,7 @@ use Rattle.network.specs.Flow.{Flows, Lowers, World, ins}
 use Rattle.wiring.specs.Wired.{Wired, linkArc, entryArc, exitArc, timesOf, flowOf}
 use Rattle.wiring.proofs.Arcs.{each-arc}
 use Rattle.wiring.proofs.Bridge.{fits-feasible, fits-slack, balanced-conserves, sink-in}
-use Rattle.wiring.proofs.Views.{lawful}
+use Rattle.board.proofs.Lawful.{lawful}
 
 module _ (G : Graph) (o : Lawful G) (N : Net) (w : Wired G N) where
   open Graph G using (parts, links, from, to)
