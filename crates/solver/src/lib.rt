@@ -1,0 +1,79 @@
+// The budget that is held, by a flow: advice is tried first, and the main loop from all at their slowest always finds one.
+use board::Board;
+use budget::Budget;
+ghost use mathlib.Core.Path.{_≡_};
+ghost use Prim.Native.Nat.{max, _+_, _≤_, _<_};
+ghost use Rattle.theory.specs.Sum.{cells};
+ghost use Rattle.board.specs.Board.{view, usable};
+ghost use Rattle.budget.specs.Made.{valueOf};
+ghost use Rattle.wiring.specs.Wired.{timesOf};
+ghost use Rattle.solver.specs.Solve.{Solvable, Solves};
+ghost use Rattle.solver.specs.Steps.{noLoads, nodesFrom, Settled, Placing, Begun};
+
+// The budget, and the loads of parts, links, entries and exits that show why none is cheaper.
+pub struct Solved {
+    pub budget: Budget,
+    pub flow: [u32; 448],
+}
+
+// ---- times of nodes
+// The ticks that a path may take.
+fn allowed(b: Board) -> u32
+    ensures { λ r. ⌜ r ≡ usable b ⌝ }
+{
+    b.deadline.0
+}
+
+fn no_loads() -> [u32; 448]
+    ensures { λ r. ⌜ r ≡ noLoads ⌝ }
+{
+    [0u32; 448]
+}
+
+// The times of `n` nodes from node `first` on.
+fn nodes_from(t: &[u32; 130], first: usize, n: usize) -> [u32; 64]
+    requires { ⌜ first ≤ 64 ⌝ }
+    requires { ⌜ n ≤ 64 ⌝ }
+    ensures { λ r. ⌜ r ≡ nodesFrom (now (t .entry)) first n ⌝ }
+{
+    let mut times = [0u32; 64];
+    let mut k: usize = 0;
+    while k < n {
+        times[k] = t[first + k];
+        k = k + 1;
+    }
+    times
+}
+
+// The budget that the times of nodes are.
+fn budget_at(b: Board, t: &[u32; 130]) -> Budget
+    requires { ⌜ Settled b (now t) ⌝ }
+    ensures { λ r. ⌜ r ≡ valueOf b (timesOf (view b) (cells (now (t .entry)))) ⌝ }
+{
+    let start = nodes_from(t, 0, b.parts);
+    let end = nodes_from(t, 64, b.parts);
+    budget::budget_of(b, start, end)
+}
+
+fn larger(a: u32, b: u32) -> u32
+    ensures { λ r. ⌜ r ≡ max a b ⌝ }
+{
+    if a < b { b } else { a }
+}
+
+// The times of parts at their nodes, the source at 0, and the sink at the greatest end or at `due`.
+fn begin(start: [u32; 64], end: [u32; 64], due: u32, t: &mut [u32; 130])
+    ensures { λ _. ⌜ Begun start end due (now (t .exit)) ⌝ }
+{
+    network::seen(t);
+    let mut most = due;
+    let mut k: usize = 0;
+    while k < 64 {
+        t[k] = start[k];
+        t[64 + k] = end[k];
+        most = larger(most, end[k]);
+        k = k + 1;
+    }
+    t[128] = 0;
+    t[129] = most;
+}
