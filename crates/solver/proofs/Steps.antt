@@ -62,7 +62,7 @@ module _ (b : Board) (t : List ℕ) (ok : Settled b t) (start end : List ℕ) (i
   unfolding valueOf nodesFrom firsts
   settled-value r e =
       let s : start ≡ firsts (b .parts) (cells t) =
-          is ∙ table-ext 64 _ _ (λ p h. ap (λ v. pick (ltb p (b .parts)) v 0) (ap (cells t) (let z : 0 + p ≡ p = omega arith in z))) in
+      is ∙ table-ext 64 _ _ (λ p h. ap (λ v. pick (ltb p (b .parts)) v 0) (ap (cells t) (let z : 0 + p ≡ p = omega arith in z))) in
       e ∙ ap (λ (l : List ℕ). budgetOf b l end) s ∙ ap (λ (l : List ℕ). budgetOf b (firsts (b .parts) (cells t)) l) ie
 
 -- ---- begin
@@ -85,11 +85,11 @@ module _ (start end : List ℕ) (due : ℕ) (t : List ℕ) where
         let t₁ : List ℕ = set t k (getD start k 0) in
         let room₁ : length t₁ ≡ 130 = length-set t k (getD start k 0) ∙ is .room in
         let there : (v : ℕ) → (v ≡ k → ⊥) → (v ≡ 64 + k → ⊥) → cells (set t₁ (64 + k) (getD end k 0)) v ≡ cells t v =
-            λ v d e. getD-set-other t₁ (64 + k) v (getD end k 0) 0 e ∙ getD-set-other t k v (getD start k 0) 0 d in
+        λ v d e. getD-set-other t₁ (64 + k) v (getD end k 0) 0 e ∙ getD-set-other t k v (getD start k 0) 0 d in
         let start-here : cells (set t₁ (64 + k) (getD end k 0)) k ≡ getD start k 0 =
-            getD-set-other t₁ (64 + k) k (getD end k 0) 0 (λ e. omega arith) ∙ getD-set-same t k (getD start k 0) 0 (omega (arith, is .room)) in
+        getD-set-other t₁ (64 + k) k (getD end k 0) 0 (λ e. omega arith) ∙ getD-set-same t k (getD start k 0) 0 (omega (arith, is .room)) in
         let end-here : cells (set t₁ (64 + k) (getD end k 0)) (64 + k) ≡ getD end k 0 =
-            getD-set-same t₁ (64 + k) (getD end k 0) 0 (omega (arith, room₁)) in
+        getD-set-same t₁ (64 + k) (getD end k 0) 0 (omega (arith, room₁)) in
         record {
           starts = λ p l. elim (ℕ-discrete p k) [
             | yes e ↦ rw e start-here
@@ -115,7 +115,7 @@ module _ (start end : List ℕ) (due : ℕ) (t : List ℕ) where
       let t₁ : List ℕ = set t 128 0 in
       let room₁ : length t₁ ≡ 130 = length-set t 128 0 ∙ is .room in
       let there : (v : ℕ) → v < 128 → cells (set t₁ 129 most) v ≡ cells t v =
-          λ v i. getD-set-other t₁ 129 v most 0 (λ q. omega arith) ∙ getD-set-other t 128 v 0 0 (λ q. omega arith) in
+      λ v i. getD-set-other t₁ 129 v most 0 (λ q. omega arith) ∙ getD-set-other t 128 v 0 0 (λ q. omega arith) in
       let sink : cells (set t₁ 129 most) 129 ≡ most = getD-set-same t₁ 129 most 0 (omega (arith, room₁)) in
       record {
         placed = record {
