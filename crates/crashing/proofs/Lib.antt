@@ -1,0 +1,3 @@
+pub mod Labelling
+pub mod Lowering
+pub mod Pushing
