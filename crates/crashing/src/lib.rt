@@ -2,9 +2,12 @@
 ghost use mathlib.Core.Path.{_≡_};
 ghost use Prim.Native.Nat.{_+_, _≤_, _<_};
 ghost use Rattle.theory.specs.Sum.{cells};
+ghost use Rattle.network.specs.Net.{netOf};
+ghost use Rattle.network.specs.Crash.{Wide, Good, Crashed};
 ghost use Rattle.network.specs.Kept.{Kept, AllKept, Placed, Ready};
 ghost use Rattle.crashing.specs.Label.{Passes, Labels, Grown, Labelled, Fresh};
 ghost use Rattle.crashing.specs.Lower.{Slack, Tighter, Scanned, Moved, Shifted};
+ghost use Rattle.crashing.specs.Turn.{State, Turned, Lowerable, Lowered};
 ghost use Rattle.crashing.specs.Push.{Led, Narrowed, Neck, Carriable, Carries, Pushable, Pushed};
 
 // ---- labels
@@ -516,4 +519,241 @@ fn push(
             d,
         );
     }
+}
+
+// ---- the main loop
+// The labelled nodes go down as far as the arcs and the deadline let them, and the tightest arc may label a node.
+fn lower(
+    arcs: usize,
+    tail: &[usize; 448],
+    head: &[usize; 448],
+    low: &[u32; 448],
+    high: &[u32; 448],
+    x: &[u32; 448],
+    due: u32,
+    t: &mut [u32; 130],
+    rank: &mut [usize; 130],
+    via: &mut [usize; 130],
+    queue: &mut [usize; 130],
+    count: usize,
+) -> usize
+    requires { ⌜ Lowerable arcs (now tail) (now head) (now low) (now high) (now x) due (now t) (now rank) (now via) count ⌝ }
+    ensures { λ r. ⌜ Lowered arcs (now (tail .entry)) (now (head .entry)) (now (low .entry)) (now (high .entry)) (now (x .entry)) due (now (t .entry)) count (now (t .exit)) (now (rank .exit)) (now (via .exit)) r ⌝ }
+{
+    let most = t[129] - due;
+    let g = scan(arcs, tail, head, low, high, x, t, rank, most);
+    shift(t, rank, g.slack);
+    let a = g.arc;
+    if arcs <= a {
+        return count;
+    }
+    label(
+        arcs,
+        tail,
+        head,
+        low,
+        high,
+        x,
+        t,
+        rank,
+        via,
+        queue,
+        a,
+        count,
+    )
+}
+
+// One turn: labels grow; then load is pushed where they reach the source, or else times go down.
+fn turn(
+    arcs: usize,
+    tail: &[usize; 448],
+    head: &[usize; 448],
+    base: &[u32; 448],
+    lengths: &[u32; 256],
+    savings: &[u32; 256],
+    first: &[usize; 131],
+    list: &[usize; 896],
+    due: u32,
+    t: &mut [u32; 130],
+    x: &mut [u32; 448],
+    low: &mut [u32; 448],
+    high: &mut [u32; 448],
+    more: &mut [u32; 448],
+    less: &mut [u32; 448],
+    rank: &mut [usize; 130],
+    via: &mut [usize; 130],
+    queue: &mut [usize; 130],
+    s: Seek,
+) -> Seek
+    requires { ⌜ Wide arcs (now tail) (now head) (now base) (now lengths) (now savings) due ⌝ }
+    requires { ⌜ State arcs (now tail) (now head) (now base) (now lengths) (now savings) (now t) (now x) (now low) (now high) (now more) (now less) (now rank) (now via) (s .count) ⌝ }
+    requires { ⌜ due < cells (now t) 129 ⌝ }
+    ensures { λ r. ⌜ Turned arcs (now (tail .entry)) (now (head .entry)) (now (base .entry)) (now (lengths .entry)) (now (savings .entry)) due (now (t .entry)) (now (x .entry)) (s .count) (now (t .exit)) (now (x .exit)) (now (low .exit)) (now (high .exit)) (now (more .exit)) (now (less .exit)) (now (rank .exit)) (now (via .exit)) (r .count) ⌝ }
+{
+    let g = grow(
+        arcs,
+        tail,
+        head,
+        low,
+        high,
+        x,
+        t,
+        first,
+        list,
+        rank,
+        via,
+        queue,
+        s,
+    );
+    if rank[128] == 0 {
+        let c = lower(
+            arcs,
+            tail,
+            head,
+            low,
+            high,
+            x,
+            due,
+            t,
+            rank,
+            via,
+            queue,
+            g.count,
+        );
+        return Seek {
+            count: c,
+            next: g.next,
+        };
+    }
+    let d = bottleneck(tail, head, more, less, rank, via);
+    push(
+        arcs,
+        tail,
+        head,
+        base,
+        lengths,
+        savings,
+        t,
+        rank,
+        via,
+        g.count,
+        x,
+        low,
+        high,
+        more,
+        less,
+        d,
+    );
+    reset(rank, queue);
+    Seek { count: 1, next: 0 }
+}
+
+// Turns until the sink is at the deadline.
+fn turns(
+    arcs: usize,
+    tail: &[usize; 448],
+    head: &[usize; 448],
+    base: &[u32; 448],
+    lengths: &[u32; 256],
+    savings: &[u32; 256],
+    first: &[usize; 131],
+    list: &[usize; 896],
+    due: u32,
+    t: &mut [u32; 130],
+    x: &mut [u32; 448],
+    low: &mut [u32; 448],
+    high: &mut [u32; 448],
+    more: &mut [u32; 448],
+    less: &mut [u32; 448],
+    rank: &mut [usize; 130],
+    via: &mut [usize; 130],
+    queue: &mut [usize; 130],
+)
+    requires { ⌜ Wide arcs (now tail) (now head) (now base) (now lengths) (now savings) due ⌝ }
+    requires { ⌜ State arcs (now tail) (now head) (now base) (now lengths) (now savings) (now t) (now x) (now low) (now high) (now more) (now less) (now rank) (now via) 1 ⌝ }
+    ensures { λ _. ⌜ Crashed (netOf arcs (now (tail .entry)) (now (head .entry)) (now (base .entry)) (now (lengths .entry)) (now (savings .entry))) due (now (t .entry)) (now (x .entry)) (now (t .exit)) (now (x .exit)) ⌝ }
+{
+    let mut s = Seek { count: 1, next: 0 };
+    while due < t[129] {
+        s = turn(
+            arcs,
+            tail,
+            head,
+            base,
+            lengths,
+            savings,
+            first,
+            list,
+            due,
+            t,
+            x,
+            low,
+            high,
+            more,
+            less,
+            rank,
+            via,
+            queue,
+            s,
+        );
+    }
+}
+
+// From times and loads that fit down to the deadline. Where the deadline is met already nothing is changed.
+pub fn crash(
+    arcs: usize,
+    tail: &[usize; 448],
+    head: &[usize; 448],
+    base: &[u32; 448],
+    lengths: &[u32; 256],
+    savings: &[u32; 256],
+    first: &[usize; 131],
+    list: &[usize; 896],
+    due: u32,
+    t: &mut [u32; 130],
+    x: &mut [u32; 448],
+)
+    requires { ⌜ Wide arcs (now tail) (now head) (now base) (now lengths) (now savings) due ⌝ }
+    requires { ⌜ Good (netOf arcs (now tail) (now head) (now base) (now lengths) (now savings)) (now t) (now x) ⌝ }
+    ensures { λ _. ⌜ Crashed (netOf arcs (now (tail .entry)) (now (head .entry)) (now (base .entry)) (now (lengths .entry)) (now (savings .entry))) due (now (t .entry)) (now (x .entry)) (now (t .exit)) (now (x .exit)) ⌝ }
+{
+    let mut low = [0u32; 448];
+    let mut high = [0u32; 448];
+    let mut more = [0u32; 448];
+    let mut less = [0u32; 448];
+    network::prices(
+        arcs,
+        base,
+        lengths,
+        savings,
+        x,
+        &mut low,
+        &mut high,
+        &mut more,
+        &mut less,
+    );
+    let mut rank = [0usize; 130];
+    let mut via = [0usize; 130];
+    let mut queue = [0usize; 130];
+    reset(&mut rank, &mut queue);
+    turns(
+        arcs,
+        tail,
+        head,
+        base,
+        lengths,
+        savings,
+        first,
+        list,
+        due,
+        t,
+        x,
+        &mut low,
+        &mut high,
+        &mut more,
+        &mut less,
+        &mut rank,
+        &mut via,
+        &mut queue,
+    );
 }
