@@ -1,0 +1,4 @@
+pub mod Labelling
+pub mod Lowering
+pub mod Pushing
+pub mod Turning
