@@ -77,3 +77,94 @@ fn begin(start: [u32; 64], end: [u32; 64], due: u32, t: &mut [u32; 130])
     t[128] = 0;
     t[129] = most;
 }
+
+// ---- lists of the arcs at each node, which make the main loop's search quick. Any lists will do, so nothing is said of them.
+struct Lists {
+    first: [usize; 131],
+    list: [usize; 896],
+}
+
+// One arc more at node `v`.
+fn count_arc(first: &mut [usize; 131], v: usize) {
+    if 130 <= v {
+        return;
+    }
+    let n = first[v + 1];
+    if 896 <= n {
+        return;
+    }
+    first[v + 1] = n + 1;
+}
+
+fn count_arcs(arcs: usize, end: &[usize; 448], first: &mut [usize; 131])
+    requires { ⌜ arcs ≤ 448 ⌝ }
+{
+    let mut a: usize = 0;
+    while a < arcs {
+        count_arc(first, end[a]);
+        a = a + 1;
+    }
+}
+
+// The list of node `v` ends where that of the next begins.
+fn add_node(first: &mut [usize; 131], v: usize)
+    requires { ⌜ v < 130 ⌝ }
+{
+    let before = first[v];
+    let here = first[v + 1];
+    if 896 < before {
+        return;
+    }
+    if 896 < here {
+        return;
+    }
+    first[v + 1] = before + here;
+}
+
+fn add_nodes(first: &mut [usize; 131]) {
+    let mut v: usize = 0;
+    while v < 130 {
+        add_node(first, v);
+        v = v + 1;
+    }
+}
+
+// Arc `a` into the list of node `v`.
+fn list_arc(next: &mut [usize; 131], list: &mut [usize; 896], v: usize, a: usize) {
+    if 130 <= v {
+        return;
+    }
+    let at = next[v];
+    if 896 <= at {
+        return;
+    }
+    list[at] = a;
+    next[v] = at + 1;
+}
+
+fn list_arcs(arcs: usize, end: &[usize; 448], next: &mut [usize; 131], list: &mut [usize; 896])
+    requires { ⌜ arcs ≤ 448 ⌝ }
+{
+    let mut a: usize = 0;
+    while a < arcs {
+        list_arc(next, list, end[a], a);
+        a = a + 1;
+    }
+}
+
+fn arcs_at_nodes(arcs: usize, tail: &[usize; 448], head: &[usize; 448]) -> Lists
+    requires { ⌜ arcs ≤ 448 ⌝ }
+{
+    let mut first = [0usize; 131];
+    count_arcs(arcs, tail, &mut first);
+    count_arcs(arcs, head, &mut first);
+    add_nodes(&mut first);
+    let mut next = first;
+    let mut list = [0usize; 896];
+    list_arcs(arcs, tail, &mut next, &mut list);
+    list_arcs(arcs, head, &mut next, &mut list);
+    Lists {
+        first: first,
+        list: list,
+    }
+}
