@@ -1,6 +1,7 @@
--- What the steps of the solver give: times of nodes from times of parts and back.
+-- What the steps of the solver give: times of nodes from times of parts and back, and loads with their first times.
 -- Assumes nothing.
 use mathlib.Core.Path.{_≡_}
+use mathlib.Core.Bool.{Bool, true}
 use mathlib.Core.List.{List}
 use Prim.Native.Nat.{ℕ, _+_, _≤_, _<_}
 use lib.ListN.{length, replicate}
@@ -9,7 +10,10 @@ use Rattle.theory.specs.Budget.{Budget}
 use Rattle.board.specs.declared.Board.{Board}
 use Rattle.board.specs.Board.{WellFormed, view, usable}
 use Rattle.times.specs.Times.{firsts}
-use Rattle.wiring.specs.Wired.{timesOf}
+use Rattle.network.specs.Net.{Net, netOf, Sound, Curved}
+use Rattle.network.specs.Flow.{Sheet, First}
+use Rattle.wiring.specs.Wired.{NetworkOf, timesOf}
+use Rattle.solver.specs.Solve.{Solvable}
 
 -- no load on any arc
 unfoldable pub noLoads : List ℕ
@@ -37,3 +41,19 @@ pub record Placing (start end : List ℕ) (due k : ℕ) (t : List ℕ) (most : �
 pub record Begun (start end : List ℕ) (due : ℕ) (t : List ℕ) : Type 0 where
   pub placed : Placing start end due 64 t (cells t 129)
   pub source : cells t 128 ≡ 0
+
+-- ---- loads
+-- the loads are a sheet, and t has the first times that fit them: together they prove the times to be the budget held
+pub record Proves (N : Net) (due : ℕ) (x t : List ℕ) : Type 0 where
+  pub sheet : Sheet (N .arcs) (N .tail) (N .head) (cells x)
+  pub first : First N due (cells x) (cells t)
+
+-- advice that is taken proves them
+pub record Accepts (N : Net) (due : ℕ) (x t : List ℕ) (r : Bool) : Type 0 where
+  pub taken : r ≡ true → Proves N due x t
+
+-- arrays that hold the network of a board that can be solved
+pub record Laid (b : Board) (arcs : ℕ) (tail head base lengths savings : List ℕ) (due : ℕ) : Type 0 where
+  pub can : Solvable b
+  pub network : NetworkOf b arcs tail head base lengths savings
+  pub due-is : due ≡ usable b

@@ -6,9 +6,10 @@ ghost use Prim.Native.Nat.{max, _+_, _≤_, _<_};
 ghost use Rattle.theory.specs.Sum.{cells};
 ghost use Rattle.board.specs.Board.{view, usable};
 ghost use Rattle.budget.specs.Made.{valueOf};
+ghost use Rattle.network.specs.Net.{netOf};
 ghost use Rattle.wiring.specs.Wired.{timesOf};
 ghost use Rattle.solver.specs.Solve.{Solvable, Solves};
-ghost use Rattle.solver.specs.Steps.{noLoads, nodesFrom, Settled, Placing, Begun};
+ghost use Rattle.solver.specs.Steps.{noLoads, nodesFrom, Settled, Placing, Begun, Proves, Accepts, Laid};
 
 // The budget, and the loads of parts, links, entries and exits that show why none is cheaper.
 pub struct Solved {
@@ -265,4 +266,119 @@ fn order_of(parts: [usize; 64], n: usize, first: &[usize; 131], list: &[usize; 8
         k = k + 1;
     }
     order
+}
+
+// The order by the starts of all parts at their slowest.
+fn slowest_order(b: Board, first: &[usize; 131], list: &[usize; 896]) -> [usize; 896]
+    requires { ⌜ Solvable b ⌝ }
+{
+    let d = times::slowest_delays(b);
+    let s = times::times_of(b, d);
+    let start = s.start;
+    let parts = by_start(start, b.parts);
+    order_of(parts, b.parts, first, list)
+}
+
+// ---- loads and their first times
+// Whether the loads that were advised are taken: they are a sheet, and there are times that fit them and end at the deadline. Then t has the first.
+fn accepts(
+    b: Board,
+    arcs: usize,
+    tail: &[usize; 448],
+    head: &[usize; 448],
+    base: &[u32; 448],
+    lengths: &[u32; 256],
+    savings: &[u32; 256],
+    order: &[usize; 896],
+    due: u32,
+    advice: &[u32; 448],
+    t: &mut [u32; 130],
+) -> bool
+    requires { ⌜ Laid b arcs (now tail) (now head) (now base) (now lengths) (now savings) due ⌝ }
+    ensures { λ r. ⌜ Accepts (netOf arcs (now (tail .entry)) (now (head .entry)) (now (base .entry)) (now (lengths .entry)) (now (savings .entry))) due (now (advice .entry)) (now (t .exit)) r ⌝ }
+{
+    if !network::conserves(arcs, tail, head, advice) {
+        return false;
+    }
+    deciding::decide(arcs, tail, head, base, lengths, savings, advice, order, due, t)
+}
+
+// Loads by the main loop, from all parts at their slowest, and their first times in t.
+fn loads(
+    b: Board,
+    arcs: usize,
+    tail: &[usize; 448],
+    head: &[usize; 448],
+    base: &[u32; 448],
+    lengths: &[u32; 256],
+    savings: &[u32; 256],
+    first: &[usize; 131],
+    list: &[usize; 896],
+    order: &[usize; 896],
+    due: u32,
+    t: &mut [u32; 130],
+) -> [u32; 448]
+    requires { ⌜ Laid b arcs (now tail) (now head) (now base) (now lengths) (now savings) due ⌝ }
+    ensures { λ r. ⌜ Proves (netOf arcs (now (tail .entry)) (now (head .entry)) (now (base .entry)) (now (lengths .entry)) (now (savings .entry))) due r (now (t .exit)) ⌝ }
+{
+    let d = times::slowest_delays(b);
+    let s = times::times_of(b, d);
+    let start = s.start;
+    let end = s.end;
+    begin(start, end, due, t);
+    let mut x = no_loads();
+    crashing::crash(
+        arcs,
+        tail,
+        head,
+        base,
+        lengths,
+        savings,
+        first,
+        list,
+        due,
+        t,
+        &mut x,
+    );
+    deciding::decide(arcs, tail, head, base, lengths, savings, &x, order, due, t);
+    x
+}
+
+// The budget that is held, with its reason. The advice is any loads at all: a good guess spares the main loop, and a bad one costs a look.
+pub fn solve(b: Board, advice: [u32; 448]) -> Solved
+    requires { ⌜ Solvable b ⌝ }
+    ensures { λ r. ⌜ Solves b r ⌝ }
+{
+    let mut tail = [0usize; 448];
+    let mut head = [0usize; 448];
+    let mut base = [0u32; 448];
+    let mut lengths = [0u32; 256];
+    let mut savings = [0u32; 256];
+    let arcs = wiring::wire(
+        b,
+        &mut tail,
+        &mut head,
+        &mut base,
+        &mut lengths,
+        &mut savings,
+    );
+    let due = allowed(b);
+    let lists = arcs_at_nodes(arcs, &tail, &head);
+    let first = lists.first;
+    let list = lists.list;
+    let order = slowest_order(b, &first, &list);
+    let mut t = [0u32; 130];
+    if accepts(b, arcs, &tail, &head, &base, &lengths, &savings, &order, due, &advice, &mut t) {
+        let taken = budget_at(b, &t);
+        return Solved {
+            budget: taken,
+            flow: advice,
+        };
+    }
+    let x = loads(b, arcs, &tail, &head, &base, &lengths, &savings, &first, &list, &order, due, &mut t);
+    let found = budget_at(b, &t);
+    Solved {
+        budget: found,
+        flow: x,
+    }
 }
