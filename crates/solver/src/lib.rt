@@ -233,7 +233,13 @@ fn put_arc(order: &mut [usize; 896], at: usize, a: usize) -> usize {
 }
 
 // The arcs of a list, from place `from` to place `to`.
-fn put_list(order: &mut [usize; 896], at: usize, list: &[usize; 896], from: usize, to: usize) -> usize {
+fn put_list(
+    order: &mut [usize; 896],
+    at: usize,
+    list: &[usize; 896],
+    from: usize,
+    to: usize,
+) -> usize {
     if 896 < to {
         return at;
     }
@@ -247,7 +253,13 @@ fn put_list(order: &mut [usize; 896], at: usize, list: &[usize; 896], from: usiz
 }
 
 // The arcs at the end of part `p`: its own, its links on, its exit.
-fn put_end(order: &mut [usize; 896], at: usize, first: &[usize; 131], list: &[usize; 896], p: usize) -> usize {
+fn put_end(
+    order: &mut [usize; 896],
+    at: usize,
+    first: &[usize; 131],
+    list: &[usize; 896],
+    p: usize,
+) -> usize {
     if 64 <= p {
         return at;
     }
@@ -300,7 +312,18 @@ fn accepts(
     if !network::conserves(arcs, tail, head, advice) {
         return false;
     }
-    deciding::decide(arcs, tail, head, base, lengths, savings, advice, order, due, t)
+    deciding::decide(
+        arcs,
+        tail,
+        head,
+        base,
+        lengths,
+        savings,
+        advice,
+        order,
+        due,
+        t,
+    )
 }
 
 // Loads by the main loop, from all parts at their slowest, and their first times in t.
@@ -344,6 +367,66 @@ fn loads(
     x
 }
 
+// The budget that is held on a board whose network is laid.
+fn solve_laid(
+    b: Board,
+    arcs: usize,
+    tail: &[usize; 448],
+    head: &[usize; 448],
+    base: &[u32; 448],
+    lengths: &[u32; 256],
+    savings: &[u32; 256],
+    due: u32,
+    advice: [u32; 448],
+) -> Solved
+    requires { ⌜ Laid b arcs (now tail) (now head) (now base) (now lengths) (now savings) due ⌝ }
+    ensures { λ r. ⌜ Solves b r ⌝ }
+{
+    let lists = arcs_at_nodes(arcs, tail, head);
+    let first = lists.first;
+    let list = lists.list;
+    let order = slowest_order(b, &first, &list);
+    let mut t = [0u32; 130];
+    if accepts(
+        b,
+        arcs,
+        tail,
+        head,
+        base,
+        lengths,
+        savings,
+        &order,
+        due,
+        &advice,
+        &mut t,
+    ) {
+        let taken = budget_at(b, &t);
+        return Solved {
+            budget: taken,
+            flow: advice,
+        };
+    }
+    let x = loads(
+        b,
+        arcs,
+        tail,
+        head,
+        base,
+        lengths,
+        savings,
+        &first,
+        &list,
+        &order,
+        due,
+        &mut t,
+    );
+    let found = budget_at(b, &t);
+    Solved {
+        budget: found,
+        flow: x,
+    }
+}
+
 // The budget that is held, with its reason. The advice is any loads at all: a good guess spares the main loop, and a bad one costs a look.
 pub fn solve(b: Board, advice: [u32; 448]) -> Solved
     requires { ⌜ Solvable b ⌝ }
@@ -363,22 +446,15 @@ pub fn solve(b: Board, advice: [u32; 448]) -> Solved
         &mut savings,
     );
     let due = allowed(b);
-    let lists = arcs_at_nodes(arcs, &tail, &head);
-    let first = lists.first;
-    let list = lists.list;
-    let order = slowest_order(b, &first, &list);
-    let mut t = [0u32; 130];
-    if accepts(b, arcs, &tail, &head, &base, &lengths, &savings, &order, due, &advice, &mut t) {
-        let taken = budget_at(b, &t);
-        return Solved {
-            budget: taken,
-            flow: advice,
-        };
-    }
-    let x = loads(b, arcs, &tail, &head, &base, &lengths, &savings, &first, &list, &order, due, &mut t);
-    let found = budget_at(b, &t);
-    Solved {
-        budget: found,
-        flow: x,
-    }
+    solve_laid(
+        b,
+        arcs,
+        &tail,
+        &head,
+        &base,
+        &lengths,
+        &savings,
+        due,
+        advice,
+    )
 }
