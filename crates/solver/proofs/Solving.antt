@@ -128,12 +128,8 @@ module _ (b : Board) (arcs : ℕ) (tail head base lengths savings : List ℕ) (d
       pub proves-solves : (r : Budget) → r ≡ valueOf b (timesOf (view b) (cells t)) → Solves b (record { budget = r; flow = x })
       proves-solves = first-solves b (ok .can) M (ok .network .wired) t x first-of (p .sheet)
 
-    module _ (r : Bool) (a : Accepts M due x t r) (yes : r ≡ true) where
-      pub taken-settled : Settled b t
-      taken-settled = proves-settled (a .taken yes)
-
-      pub taken-solves : (q : Budget) → q ≡ valueOf b (timesOf (view b) (cells t)) → Solves b (record { budget = q; flow = x })
-      taken-solves = proves-solves (a .taken yes)
+    pub taken-proves : (r : Bool) → Accepts M due x t r → r ≡ true → Proves M due x t
+    taken-proves r a = a .taken
 
   module _ (d : List ℕ) (is : d ≡ slowestsOf b) (s : Schedule) (timed : TimesOf b d s) (t₀ x₀ : List ℕ) (begun : Begun (s .start) (s .end) due t₀) (idle : x₀ ≡ noLoads) where
     begun-usable : Begun (s .start) (s .end) (usable b) t₀

@@ -326,8 +326,14 @@ fn accepts(
     )
 }
 
-// Loads by the main loop, from all parts at their slowest, and their first times in t.
-fn loads(
+// Loads and their first times.
+struct Found {
+    loads: [u32; 448],
+    times: [u32; 130],
+}
+
+// Loads by the main loop, from all parts at their slowest. Its own times are cheapest too, but the first that fit its loads are asked for.
+fn from_slowest(
     b: Board,
     arcs: usize,
     tail: &[usize; 448],
@@ -339,16 +345,16 @@ fn loads(
     list: &[usize; 896],
     order: &[usize; 896],
     due: u32,
-    t: &mut [u32; 130],
-) -> [u32; 448]
+) -> Found
     requires { ⌜ Laid b arcs (now tail) (now head) (now base) (now lengths) (now savings) due ⌝ }
-    ensures { λ r. ⌜ Proves (netOf arcs (now (tail .entry)) (now (head .entry)) (now (base .entry)) (now (lengths .entry)) (now (savings .entry))) due r (now (t .exit)) ⌝ }
+    ensures { λ r. ⌜ Proves (netOf arcs (now (tail .entry)) (now (head .entry)) (now (base .entry)) (now (lengths .entry)) (now (savings .entry))) due (r .loads) (r .times) ⌝ }
 {
     let d = times::slowest_delays(b);
     let s = times::times_of(b, d);
     let start = s.start;
     let end = s.end;
-    begin(start, end, due, t);
+    let mut late = [0u32; 130];
+    begin(start, end, due, &mut late);
     let mut x = no_loads();
     crashing::crash(
         arcs,
@@ -360,15 +366,30 @@ fn loads(
         first,
         list,
         due,
-        t,
+        &mut late,
         &mut x,
     );
-    deciding::decide(arcs, tail, head, base, lengths, savings, &x, order, due, t);
-    x
+    let mut early = [0u32; 130];
+    deciding::decide(
+        arcs,
+        tail,
+        head,
+        base,
+        lengths,
+        savings,
+        &x,
+        order,
+        due,
+        &mut early,
+    );
+    Found {
+        loads: x,
+        times: early,
+    }
 }
 
-// The budget that is held on a board whose network is laid.
-fn solve_laid(
+// Loads and their first times: the advice where it is taken, and else those of the main loop.
+fn found_with(
     b: Board,
     arcs: usize,
     tail: &[usize; 448],
@@ -378,9 +399,9 @@ fn solve_laid(
     savings: &[u32; 256],
     due: u32,
     advice: [u32; 448],
-) -> Solved
+) -> Found
     requires { ⌜ Laid b arcs (now tail) (now head) (now base) (now lengths) (now savings) due ⌝ }
-    ensures { λ r. ⌜ Solves b r ⌝ }
+    ensures { λ r. ⌜ Proves (netOf arcs (now (tail .entry)) (now (head .entry)) (now (base .entry)) (now (lengths .entry)) (now (savings .entry))) due (r .loads) (r .times) ⌝ }
 {
     let lists = arcs_at_nodes(arcs, tail, head);
     let first = lists.first;
@@ -400,13 +421,12 @@ fn solve_laid(
         &advice,
         &mut t,
     ) {
-        let taken = budget_at(b, &t);
-        return Solved {
-            budget: taken,
-            flow: advice,
+        return Found {
+            loads: advice,
+            times: t,
         };
     }
-    let x = loads(
+    from_slowest(
         b,
         arcs,
         tail,
@@ -418,12 +438,31 @@ fn solve_laid(
         &list,
         &order,
         due,
-        &mut t,
-    );
-    let found = budget_at(b, &t);
+    )
+}
+
+// The budget that is held on a board whose network is laid.
+fn solve_laid(
+    b: Board,
+    arcs: usize,
+    tail: &[usize; 448],
+    head: &[usize; 448],
+    base: &[u32; 448],
+    lengths: &[u32; 256],
+    savings: &[u32; 256],
+    due: u32,
+    advice: [u32; 448],
+) -> Solved
+    requires { ⌜ Laid b arcs (now tail) (now head) (now base) (now lengths) (now savings) due ⌝ }
+    ensures { λ r. ⌜ Solves b r ⌝ }
+{
+    let found = found_with(b, arcs, tail, head, base, lengths, savings, due, advice);
+    let times = found.times;
+    let loads = found.loads;
+    let held = budget_at(b, &times);
     Solved {
-        budget: found,
-        flow: x,
+        budget: held,
+        flow: loads,
     }
 }
 
