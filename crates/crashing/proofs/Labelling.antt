@@ -10,6 +10,7 @@ use lib.ListN.{length, set, length-set}
 use lib.Seq.{getD-set-same, getD-set-other}
 use Rattle.theory.specs.Sum.{sum, cells}
 use Rattle.theory.proofs.SumLaws.{sum-ext, sum-zero, sum-change, sum-const}
+use Rattle.network.proofs.Clearing.{Cleared}
 use Rattle.network.specs.Net.{Sound}
 use Rattle.network.specs.Kept.{Placed, Ready}
 use Rattle.crashing.specs.Label.{
@@ -183,18 +184,6 @@ fresh-labels tail head low high x t arcs rank via f = record {
       );
   arc = λ v l p d. absurd (omega (arith, f .others v l d));
   way = λ v l p d. absurd (omega (arith, f .others v l d));
-}
-
--- the first n nodes have no label
-pub record Cleared (n : ℕ) (rank : List ℕ) : Type 0 where
-  pub clear : (v : ℕ) → v < n → cells rank v ≡ 0
-
-pub clear-begins : (rank : List ℕ) → Cleared 0 rank
-clear-begins rank = record { clear = λ v h. absurd (omega arith) }
-
-pub clear-more : (rank : List ℕ) (v : ℕ) → length rank ≡ 130 → v < 130 → Cleared v rank → Cleared (v + 1) (set rank v 0)
-clear-more rank v long h c = record {
-  clear = λ w l. elim (ℕ-discrete w v) [ yes e ↦ rw e (getD-set-same rank v 0 0 (omega (arith, long))) | no d ↦ getD-set-other rank v w 0 0 d ∙ c .clear w (omega arith) ];
 }
 
 pub clear-ends : (rank : List ℕ) (v : ℕ) → length rank ≡ 130 → 130 ≤ v → Cleared v rank → Fresh (set rank 129 1)

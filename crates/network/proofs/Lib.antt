@@ -2,3 +2,5 @@ pub mod Places
 pub mod Pricing
 pub mod Sheets
 pub mod Fitting
+pub mod Verdict
+pub mod Clearing
