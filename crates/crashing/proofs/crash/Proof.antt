@@ -4,7 +4,7 @@ use Rattle.crashing.proofs.crash.Statement.{statement}
 use Rattle.crashing.proofs.crash.Tie as tie
 use Rattle.crashing.proofs.crash.Reads as reads
 use Rattle.crashing.proofs.crash.Lts as lts
-use Rattle.crashing.proofs.reset.Reads as reset-reads
+use Rattle.labelling.proofs.reset.Reads as reset-reads
 use Rattle.crashing.proofs.turns.Reads as turns-reads
 use Rattle.network.proofs.prices.Reads as prices-reads
 

@@ -5,7 +5,7 @@ use Rattle.crashing.proofs.lower.Statement.{statement}
 use Rattle.crashing.proofs.lower.Tie as tie
 use Rattle.crashing.proofs.lower.Reads as reads
 use Rattle.crashing.proofs.lower.Lts as lts
-use Rattle.crashing.proofs.label.Reads as label-reads
+use Rattle.labelling.proofs.label.Reads as label-reads
 use Rattle.crashing.proofs.scan.Reads as scan-reads
 use Rattle.crashing.proofs.shift.Reads as shift-reads
 

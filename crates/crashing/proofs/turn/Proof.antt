@@ -4,11 +4,11 @@ use Rattle.crashing.proofs.turn.Statement.{statement}
 use Rattle.crashing.proofs.turn.Tie as tie
 use Rattle.crashing.proofs.turn.Reads as reads
 use Rattle.crashing.proofs.turn.Lts as lts
-use Rattle.crashing.proofs.bottleneck.Reads as bottleneck-reads
-use Rattle.crashing.proofs.grow.Reads as grow-reads
+use Rattle.pushing.proofs.bottleneck.Reads as bottleneck-reads
+use Rattle.labelling.proofs.grow.Reads as grow-reads
 use Rattle.crashing.proofs.lower.Reads as lower-reads
-use Rattle.crashing.proofs.push.Reads as push-reads
-use Rattle.crashing.proofs.reset.Reads as reset-reads
+use Rattle.pushing.proofs.push.Reads as push-reads
+use Rattle.labelling.proofs.reset.Reads as reset-reads
 
 -- src/lib.rt:593:9
 grow-requires : tie.Need-grow-requires

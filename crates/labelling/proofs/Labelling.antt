@@ -13,7 +13,7 @@ use Rattle.theory.proofs.SumLaws.{sum-ext, sum-zero, sum-change, sum-const}
 use Rattle.network.proofs.Clearing.{Cleared}
 use Rattle.network.specs.Net.{Sound}
 use Rattle.network.specs.Kept.{Placed, Ready}
-use Rattle.crashing.specs.Label.{
+use Rattle.labelling.specs.Label.{
   lack,
   Up,
   Down,

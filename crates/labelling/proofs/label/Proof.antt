@@ -1,11 +1,11 @@
-use Rattle.crashing.proofs.Labelling.{none-labelled, labelled, count-less}
+use Rattle.labelling.proofs.Labelling.{none-labelled, labelled, count-less}
 use Rattle.network.proofs.Fitting.{placed}
 use borrow.Author.Needs.{needs}
-use Rattle.crashing.proofs.label.Statement.{statement}
-use Rattle.crashing.proofs.label.Tie as tie
-use Rattle.crashing.proofs.label.Reads as reads
-use Rattle.crashing.proofs.label.Lts as lts
-use Rattle.crashing.proofs.passes.Reads as passes-reads
+use Rattle.labelling.proofs.label.Statement.{statement}
+use Rattle.labelling.proofs.label.Tie as tie
+use Rattle.labelling.proofs.label.Reads as reads
+use Rattle.labelling.proofs.label.Lts as lts
+use Rattle.labelling.proofs.passes.Reads as passes-reads
 use Rattle.network.proofs.seen_nodes.Reads as seen-nodes-reads
 
 -- src/lib.rt:74:5

@@ -1,12 +1,12 @@
-use Rattle.crashing.proofs.Labelling.{same-labels, grown-labels, grown-more}
-use Rattle.crashing.specs.Label.{Grown}
+use Rattle.labelling.proofs.Labelling.{same-labels, grown-labels, grown-more}
+use Rattle.labelling.specs.Label.{Grown}
 use Prim.Native.Nat.{_≤_, _<_, _-_}
 use borrow.Author.Needs.{needs}
-use Rattle.crashing.proofs.spread.Statement.{statement}
-use Rattle.crashing.proofs.spread.Tie as tie
-use Rattle.crashing.proofs.spread.Reads as reads
-use Rattle.crashing.proofs.spread.Lts as lts
-use Rattle.crashing.proofs.visit.Reads as visit-reads
+use Rattle.labelling.proofs.spread.Statement.{statement}
+use Rattle.labelling.proofs.spread.Tie as tie
+use Rattle.labelling.proofs.spread.Reads as reads
+use Rattle.labelling.proofs.spread.Lts as lts
+use Rattle.labelling.proofs.visit.Reads as visit-reads
 
 abbrev Inv-loop : tie.InvT-loop
 Inv-loop arcs tail head low high x t list rank₀ via₀ queue₀ from to count c₀ j₀ rank via queue c j = Grown tail head low high x t arcs count rank via c

@@ -12,10 +12,10 @@ use Rattle.theory.specs.Sum.{share, into, More, cells}
 use Rattle.theory.proofs.SumLaws.{share-eq, share-ne, into-more}
 use Rattle.network.specs.Net.{Sound, Bends, Curved}
 use Rattle.network.specs.Price.{PricedAt, Priced, Repriced}
-use Rattle.crashing.specs.declared.Way.{Way}
-use Rattle.crashing.specs.Label.{Up, Down, Labels}
-use Rattle.crashing.specs.Label as label
-use Rattle.crashing.specs.Push.{
+use Rattle.pushing.specs.declared.Way.{Way}
+use Rattle.labelling.specs.Label.{Up, Down, Labels}
+use Rattle.labelling.specs.Label as label
+use Rattle.pushing.specs.Push.{
   Roomy,
   Roomy.ends,
   Roomy.on,

@@ -1,9 +1,9 @@
-use Rattle.crashing.proofs.Pushing.{narrow-on, narrow-back}
+use Rattle.pushing.proofs.Pushing.{narrow-on, narrow-back}
 use borrow.Author.Needs.{needs}
-use Rattle.crashing.proofs.narrow.Statement.{statement}
-use Rattle.crashing.proofs.narrow.Tie as tie
-use Rattle.crashing.proofs.narrow.Reads as reads
-use Rattle.crashing.proofs.narrow.Lts as lts
+use Rattle.pushing.proofs.narrow.Statement.{statement}
+use Rattle.pushing.proofs.narrow.Tie as tie
+use Rattle.pushing.proofs.narrow.Reads as reads
+use Rattle.pushing.proofs.narrow.Lts as lts
 use Rattle.network.proofs.lesser.Reads as lesser-reads
 
 -- src/lib.rt:411:13

@@ -1,11 +1,11 @@
-use Rattle.crashing.proofs.Labelling.{shut-none, shut-slack, shut-both, shut-empty, shut-loose, passes-on, passes-back}
+use Rattle.labelling.proofs.Labelling.{shut-none, shut-slack, shut-both, shut-empty, shut-loose, passes-on, passes-back}
 use Rattle.network.proofs.Places.{node-4, node-8}
 use Rattle.network.proofs.Fitting.{tail-node, head-node, low-fits, high-fits}
 use borrow.Author.Needs.{needs}
-use Rattle.crashing.proofs.passes.Statement.{statement}
-use Rattle.crashing.proofs.passes.Tie as tie
-use Rattle.crashing.proofs.passes.Reads as reads
-use Rattle.crashing.proofs.passes.Lts as lts
+use Rattle.labelling.proofs.passes.Statement.{statement}
+use Rattle.labelling.proofs.passes.Tie as tie
+use Rattle.labelling.proofs.passes.Reads as reads
+use Rattle.labelling.proofs.passes.Lts as lts
 
 -- src/lib.rt:31:13
 mul-u : tie.Need-mul-u

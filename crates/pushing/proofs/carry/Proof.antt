@@ -1,9 +1,9 @@
-use Rattle.crashing.proofs.Pushing.{carry-covers, carry-bends, carry-on, carry-back}
+use Rattle.pushing.proofs.Pushing.{carry-covers, carry-bends, carry-on, carry-back}
 use borrow.Author.Needs.{needs}
-use Rattle.crashing.proofs.carry.Statement.{statement}
-use Rattle.crashing.proofs.carry.Tie as tie
-use Rattle.crashing.proofs.carry.Reads as reads
-use Rattle.crashing.proofs.carry.Lts as lts
+use Rattle.pushing.proofs.carry.Statement.{statement}
+use Rattle.pushing.proofs.carry.Tie as tie
+use Rattle.pushing.proofs.carry.Reads as reads
+use Rattle.pushing.proofs.carry.Lts as lts
 use Rattle.network.proofs.reprice.Reads as reprice-reads
 
 -- src/lib.rt:466:13

@@ -1,10 +1,10 @@
-use Rattle.crashing.proofs.Labelling.{count-most, same-labels}
+use Rattle.labelling.proofs.Labelling.{count-most, same-labels}
 use borrow.Author.Needs.{needs}
-use Rattle.crashing.proofs.pop.Statement.{statement}
-use Rattle.crashing.proofs.pop.Tie as tie
-use Rattle.crashing.proofs.pop.Reads as reads
-use Rattle.crashing.proofs.pop.Lts as lts
-use Rattle.crashing.proofs.spread.Reads as spread-reads
+use Rattle.labelling.proofs.pop.Statement.{statement}
+use Rattle.labelling.proofs.pop.Tie as tie
+use Rattle.labelling.proofs.pop.Reads as reads
+use Rattle.labelling.proofs.pop.Lts as lts
+use Rattle.labelling.proofs.spread.Reads as spread-reads
 
 -- src/lib.rt:195:13
 mul-v : tie.Need-mul-v

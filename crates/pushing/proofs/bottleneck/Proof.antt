@@ -1,11 +1,11 @@
-use Rattle.crashing.proofs.Pushing.{Narrowing, neck-begins, neck-ends, neck-arc, neck-more, neck-less}
+use Rattle.pushing.proofs.Pushing.{Narrowing, neck-begins, neck-ends, neck-arc, neck-more, neck-less}
 use Rattle.theory.specs.Sum.{cells}
 use borrow.Author.Needs.{needs}
-use Rattle.crashing.proofs.bottleneck.Statement.{statement}
-use Rattle.crashing.proofs.bottleneck.Tie as tie
-use Rattle.crashing.proofs.bottleneck.Reads as reads
-use Rattle.crashing.proofs.bottleneck.Lts as lts
-use Rattle.crashing.proofs.narrow.Reads as narrow-reads
+use Rattle.pushing.proofs.bottleneck.Statement.{statement}
+use Rattle.pushing.proofs.bottleneck.Tie as tie
+use Rattle.pushing.proofs.bottleneck.Reads as reads
+use Rattle.pushing.proofs.bottleneck.Lts as lts
+use Rattle.pushing.proofs.narrow.Reads as narrow-reads
 
 abbrev Inv-loop : tie.InvT-loop
 Inv-loop tail head more less rank via w₀ w = Narrowing tail head more less rank via w

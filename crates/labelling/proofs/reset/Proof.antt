@@ -1,13 +1,13 @@
 use Rattle.network.proofs.Clearing.{Cleared, clear-begins, clear-more}
-use Rattle.crashing.proofs.Labelling.{clear-ends}
+use Rattle.labelling.proofs.Labelling.{clear-ends}
 use lib.ListN.{length, length-set}
 use mathlib.Core.Path.{_≡_}
 use Prim.Native.Nat.{_≤_, _<_, _-_}
 use borrow.Author.Needs.{needs}
-use Rattle.crashing.proofs.reset.Statement.{statement}
-use Rattle.crashing.proofs.reset.Tie as tie
-use Rattle.crashing.proofs.reset.Reads as reads
-use Rattle.crashing.proofs.reset.Lts as lts
+use Rattle.labelling.proofs.reset.Statement.{statement}
+use Rattle.labelling.proofs.reset.Tie as tie
+use Rattle.labelling.proofs.reset.Reads as reads
+use Rattle.labelling.proofs.reset.Lts as lts
 use Rattle.network.proofs.seen_nodes.Reads as seen-nodes-reads
 
 abbrev Inv-loop : tie.InvT-loop

@@ -1,10 +1,10 @@
-use Rattle.crashing.proofs.Labelling.{same-labels, labelled-grown}
+use Rattle.labelling.proofs.Labelling.{same-labels, labelled-grown}
 use borrow.Author.Needs.{needs}
-use Rattle.crashing.proofs.visit.Statement.{statement}
-use Rattle.crashing.proofs.visit.Tie as tie
-use Rattle.crashing.proofs.visit.Reads as reads
-use Rattle.crashing.proofs.visit.Lts as lts
-use Rattle.crashing.proofs.label.Reads as label-reads
+use Rattle.labelling.proofs.visit.Statement.{statement}
+use Rattle.labelling.proofs.visit.Tie as tie
+use Rattle.labelling.proofs.visit.Reads as reads
+use Rattle.labelling.proofs.visit.Lts as lts
+use Rattle.labelling.proofs.label.Reads as label-reads
 
 -- src/lib.rt:105:13
 mul-a : tie.Need-mul-a

@@ -1,11 +1,11 @@
-use Rattle.crashing.proofs.Pushing.{Passing, push-begins, push-ends, push-carriable, push-more, push-less}
+use Rattle.pushing.proofs.Pushing.{Passing, push-begins, push-ends, push-carriable, push-more, push-less}
 use Rattle.theory.specs.Sum.{cells}
 use borrow.Author.Needs.{needs}
-use Rattle.crashing.proofs.push.Statement.{statement}
-use Rattle.crashing.proofs.push.Tie as tie
-use Rattle.crashing.proofs.push.Reads as reads
-use Rattle.crashing.proofs.push.Lts as lts
-use Rattle.crashing.proofs.carry.Reads as carry-reads
+use Rattle.pushing.proofs.push.Statement.{statement}
+use Rattle.pushing.proofs.push.Tie as tie
+use Rattle.pushing.proofs.push.Reads as reads
+use Rattle.pushing.proofs.push.Lts as lts
+use Rattle.pushing.proofs.carry.Reads as carry-reads
 use Rattle.network.proofs.seen.Reads as seen-reads
 
 abbrev Inv-loop : tie.InvT-loop

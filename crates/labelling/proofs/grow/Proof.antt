@@ -1,12 +1,12 @@
-use Rattle.crashing.proofs.Labelling.{same-labels, grown-labels, grown-more}
-use Rattle.crashing.specs.Label.{Grown}
+use Rattle.labelling.proofs.Labelling.{same-labels, grown-labels, grown-more}
+use Rattle.labelling.specs.Label.{Grown}
 use Prim.Native.Nat.{_≤_, _<_, _-_}
 use borrow.Author.Needs.{needs}
-use Rattle.crashing.proofs.grow.Statement.{statement}
-use Rattle.crashing.proofs.grow.Tie as tie
-use Rattle.crashing.proofs.grow.Reads as reads
-use Rattle.crashing.proofs.grow.Lts as lts
-use Rattle.crashing.proofs.pop.Reads as pop-reads
+use Rattle.labelling.proofs.grow.Statement.{statement}
+use Rattle.labelling.proofs.grow.Tie as tie
+use Rattle.labelling.proofs.grow.Reads as reads
+use Rattle.labelling.proofs.grow.Lts as lts
+use Rattle.labelling.proofs.pop.Reads as pop-reads
 
 abbrev Inv-loop : tie.InvT-loop
 Inv-loop arcs tail head low high x t first list rank₀ via₀ queue₀ g₀ rank via queue g = Grown tail head low high x t arcs (g₀ .count) rank via (g .count)

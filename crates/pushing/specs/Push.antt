@@ -8,8 +8,8 @@ use lib.ListN.{length, set}
 use Rattle.theory.specs.Sum.{share, into, cells}
 use Rattle.network.specs.Net.{Sound, Bends, Curved}
 use Rattle.network.specs.Price.{Repriced, Priced}
-use Rattle.crashing.specs.declared.Way.{Way}
-use Rattle.crashing.specs.Label.{Up, Down, Labels}
+use Rattle.pushing.specs.declared.Way.{Way}
+use Rattle.labelling.specs.Label.{Up, Down, Labels}
 
 -- ---- the least room
 module _ (tail head more less via : List ℕ) where
