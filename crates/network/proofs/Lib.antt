@@ -1,4 +1,5 @@
 pub mod Places
+pub mod Gains
 pub mod Pricing
 pub mod Sheets
 pub mod Fitting

@@ -1,37 +1,28 @@
+-- `deciding::visit` meets its contract.
+-- Assumes nothing.
 use Rattle.deciding.proofs.Rising.{fair-placed, visit-none, visit-never, visit-one}
 use borrow.Author.Needs.{needs}
 use Rattle.deciding.proofs.visit.Statement.{statement}
 use Rattle.deciding.proofs.visit.Tie as tie
-use Rattle.deciding.proofs.visit.Reads as reads
-use Rattle.deciding.proofs.visit.Lts as lts
-use Rattle.deciding.proofs.settle.Reads as settle-reads
-use Rattle.network.proofs.larger.Reads as larger-reads
 
--- src/lib.rt:107:9
 returns : tie.Need-returns
 returns c = search (visit-never)
 
--- src/lib.rt:109:13
 mul-a : tie.Need-mul-a
 mul-a c = search needs
 
--- src/lib.rt:109:13
 shared-slice-read-a : tie.Need-shared-slice-read-a
 shared-slice-read-a c = search needs
 
--- src/lib.rt:111:9
 returns-2 : tie.Need-returns-2
 returns-2 c = search (visit-none)
 
--- src/lib.rt:113:24
 settle-requires : tie.Need-settle-requires
 settle-requires c κs = (search (fair-placed), search needs)
 
--- src/lib.rt:113:5
 larger-requires : tie.Need-larger-requires
 larger-requires c κs = search needs
 
--- src/lib.rt:87:1
 returns-3 : tie.Need-returns-3
 returns-3 c = search (visit-one)
 
