@@ -14,7 +14,7 @@ use Rattle.network.specs.Net.{Net, netOf, Sound}
 use Rattle.network.specs.Flow.{Lowers, World}
 use Rattle.network.specs.Kept.{Kept, AllKept, Placed, Ready}
 use Rattle.crashing.specs.declared.Tight.{Tight}
-use Rattle.crashing.specs.Label.{Up, Down, Shut, Way, Way.on, Way.back, Labels, Labelled}
+use Rattle.labelling.specs.Label.{Up, Down, Shut, Way, Way.on, Way.back, Labels, Labelled}
 use Rattle.crashing.specs.Lower.{Open, Slack, Scanned, Moved, Shifted, Tighter}
 use Rattle.crashing.specs.Turn.{Lowered}
 

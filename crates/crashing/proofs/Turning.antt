@@ -15,11 +15,11 @@ use Rattle.network.specs.Kept.{Kept, AllKept, Ready}
 use Rattle.network.specs.Crash.{Wide, Good, Crashed}
 use Rattle.network.proofs.Fitting.{fit-kept, kept-fit, fits-kept, kept-fits, ready-from}
 use Rattle.crashing.specs.declared.Tight.{Tight}
-use Rattle.crashing.specs.Label.{Up, Down, Shut, Way, Way.on, Way.back, Labels, Grown, Labelled, Fresh}
+use Rattle.labelling.specs.Label.{Up, Down, Shut, Way, Way.on, Way.back, Labels, Grown, Labelled, Fresh}
 use Rattle.crashing.specs.Lower.{Open, Scanned, Moved, Shifted}
-use Rattle.crashing.specs.Push.{Neck, Led, Change, Change.same, Change.rises, Change.falls, Carried, Pushable, Pushed}
+use Rattle.pushing.specs.Push.{Neck, Led, Change, Change.same, Change.rises, Change.falls, Carried, Pushable, Pushed}
 use Rattle.crashing.specs.Turn.{State, left, Turned, Running, Live, Lowerable, Lowered}
-use Rattle.crashing.proofs.Labelling.{fresh-labels}
+use Rattle.labelling.proofs.Labelling.{fresh-labels}
 
 -- ---- the labelled nodes go down
 module _ (arcs : ℕ) (tail head low high x : List ℕ) (due : ℕ) (t rank via : List ℕ) (count : ℕ) (o : Lowerable arcs tail head low high x due t rank via count) where

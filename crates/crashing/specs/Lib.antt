@@ -1,4 +1,2 @@
-pub mod Label
 pub mod Lower
-pub mod Push
 pub mod Turn

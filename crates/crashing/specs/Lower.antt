@@ -5,7 +5,7 @@ use mathlib.Core.List.{List}
 use Prim.Native.Nat.{ℕ, _+_, _≤_, _<_}
 use Rattle.theory.specs.Sum.{cells}
 use Rattle.crashing.specs.declared.Tight.{Tight}
-use Rattle.crashing.specs.Label.{Shut}
+use Rattle.labelling.specs.Label.{Shut}
 
 module _ (tail head low high x t rank : List ℕ) where
   -- arc a lets the labelled nodes go down by d

@@ -9,7 +9,7 @@ use Rattle.network.specs.Net.{Net, netOf}
 use Rattle.network.specs.Price.{Priced}
 use Rattle.network.specs.Kept.{AllKept, Ready}
 use Rattle.network.specs.Crash.{Good}
-use Rattle.crashing.specs.Label.{Labels}
+use Rattle.labelling.specs.Label.{Labels}
 
 module _ (arcs : ℕ) (tail head base lengths savings : List ℕ) where
   -- what every turn keeps

@@ -11,6 +11,7 @@ use lib.ListN.{length, set, length-set}
 use lib.Seq.{getD-set-same, getD-set-other}
 use Rattle.theory.specs.Sum.{sum, cells}
 use Rattle.theory.proofs.SumLaws.{sum-le, sum-const, sum-change, below-suc}
+use Rattle.network.proofs.Clearing.{Cleared}
 use Rattle.network.specs.Net.{netOf, Sound}
 use Rattle.network.specs.Flow.{First, Never, Decided}
 use Rattle.network.specs.Price.{Priced}
@@ -313,17 +314,6 @@ module _ (tail head low high x : List ℕ) (arcs due : ℕ) where
   }
 
 -- ---- where the raising begins
-pub record Cleared (n : ℕ) (t : List ℕ) : Type 0 where
-  pub clear : (v : ℕ) → v < n → cells t v ≡ 0
-
-pub clear-begins : (t : List ℕ) → Cleared 0 t
-clear-begins t = record { clear = λ v h. absurd (omega arith) }
-
-pub clear-more : (t : List ℕ) (v : ℕ) → length t ≡ 130 → v < 130 → Cleared v t → Cleared (v + 1) (set t v 0)
-clear-more t v long h c = record {
-  clear = λ w l. elim (ℕ-discrete w v) [ yes e ↦ rw e (getD-set-same t v 0 0 (omega (arith, long))) | no d ↦ getD-set-other t v w 0 0 d ∙ c .clear w (omega arith) ];
-}
-
 pub clear-ends : (t : List ℕ) (v due : ℕ) → length t ≡ 130 → 130 ≤ v → Cleared v t → Started due (set t 129 due)
 clear-ends t v due long h c = record {
   sink = getD-set-same t 129 due 0 (omega (arith, long));

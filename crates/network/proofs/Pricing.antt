@@ -8,12 +8,12 @@ use native.Mathlib.Omega.{arith}
 use native.Mathlib.Decide.{decLt, ℕ-discrete}
 use native.Mathlib.Numerals.{add-one}
 use borrow.Author.Tests.{lt-ltb, le-ltb}
-use lib.ListN.{length, set, List·getD-eq-default}
+use lib.ListN.{length, set}
 use lib.Seq.{getD-set-same, getD-set-other}
 use Rattle.theory.specs.Sum.{sum, cells}
-use Rattle.theory.proofs.SumLaws.{sum-ext, sum-zero, sum-mono, below-suc}
+use Rattle.theory.proofs.SumLaws.{sum-mono, below-suc}
 use Rattle.theory.specs.Saving.{tick, before}
-use Rattle.theory.proofs.RunLaws.{tick-past, tick-falls, tick-run}
+use Rattle.network.proofs.Gains.{gain-flat}
 use Rattle.network.specs.declared.Price.{Price}
 use Rattle.network.specs.Net.{lengthAt, savingAt, gainOf, Bends, Curved}
 use Rattle.network.specs.Price.{Span, Room, Extends, Prices, Added, RunsTo, PricedAt, Priced, Repriced}
@@ -177,11 +177,7 @@ module _ (lengths savings : List ℕ) (a base x : ℕ) (c : Bends base lengths s
   -- arcs from 64 on have no runs
   pub price-flat : length lengths ≡ 256 → 64 ≤ a →
       Prices (gainOf lengths savings a) base x (record { width = 0; low = base; high = base; more = 64001; less = x })
-  unfolding gainOf
-  price-flat e h =
-      let empty : sum 4 (lengthAt lengths a) ≡ 0 =
-      sum-ext 4 {f = lengthAt lengths a} {g = λ i. 0} (λ i l. List·getD-eq-default lengths 0 (omega (arith, e))) ∙ sum-zero 4 in
-      none _ base x (c .short) (λ j. tick-past (lengthAt lengths a) (savingAt savings a) 4 j (omega (arith, empty)))
+  price-flat e h = none _ base x (c .short) (gain-flat lengths savings a e h)
 
   pub runs-begin : RunsTo lengths savings a base x 0 (record { width = 0; low = base; high = base; more = 64001; less = x })
   unfolding sum tick
