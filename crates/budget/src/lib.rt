@@ -4,7 +4,6 @@ use curve::Curve;
 use curve::Microwatts;
 use curve::Power;
 use curve::Ticks;
-use refusal::Why;
 ghost use mathlib.Core.Path.{_≡_};
 ghost use Prim.Native.Nat.{_+_, _≤_, _<_};
 ghost use Rattle.curve.specs.Curve.{powerOf};

@@ -20,6 +20,7 @@ use Rattle.budget.proofs.BudgetLaws.{value-alike, value-holds}
 use Rattle.network.specs.Net.{Net, netOf}
 use Rattle.network.specs.Flow.{Sheet, World, First, Never, Decided}
 use Rattle.network.specs.Sheet.{Says}
+use Rattle.network.proofs.Verdict.{crashed-first}
 use Rattle.network.specs.Crash.{Wide, Good, Crashed}
 use Rattle.wiring.specs.Wired.{Wired, NetworkOf, timesOf, flowOf}
 use Rattle.wiring.proofs.Bridge.{balanced-conserves}
@@ -84,17 +85,6 @@ module _ (b : Board) (can : Solvable b) (arcs : ℕ) (tail head base lengths sav
     pub crashed-sheet : Sheet arcs (cells tail) (cells head) (cells x)
     crashed-sheet = record { small = c .good .small; balanced = c .good .flows .balanced }
 
-    -- its own times fit and end at the deadline, so the verdict is not no
-    crashed-not-never : usable b ≤ cells t₀ 129 → Never N (usable b) (cells x) → ⊥
-    crashed-not-never late never =
-        let end : cells t 129 ≡ usable b = c .end late in
-        never .none (cells t) (c .good .flows .fit) (c .good .flows .root) end
-        (λ a h. omega (arith, end, world .inside (cells t) (cells x) (c .good .flows) a h))
-
-    pub crashed-first : usable b ≤ cells t₀ 129 → (u : List ℕ) (r : Bool) → Decided N (usable b) (cells x) (cells u) r → First N (usable b) (cells x) (cells u)
-    crashed-first late u true v = v .yes refl
-    crashed-first late u false v = absurd (crashed-not-never late (v .no refl))
-
 -- ---- the ways through the code
 not-false : (q : Bool) → not q ≡ false → q ≡ true
 not-false true e = refl
@@ -146,7 +136,7 @@ module _ (b : Board) (arcs : ℕ) (tail head base lengths savings : List ℕ) (d
           sheet = crashed-sheet b (ok .can) arcs tail head base lengths savings (ok .network) t₀ x₀ t x c′;
           first =
               rw (ok .due-is)
-              (crashed-first b (ok .can) arcs tail head base lengths savings (ok .network) t₀ x₀ t x c′ (begun-usable .placed .due-late) u r v′);
+              (crashed-first M (usable b) (world b (ok .can) arcs tail head base lengths savings (ok .network)) t₀ x₀ t x c′ (begun-usable .placed .due-late) u r v′);
         }
 
 pub slowest-able : (b : Board) → Solvable b → (d : List ℕ) → d ≡ slowestsOf b → Timeable b d

@@ -14,7 +14,6 @@ use Rattle.base.proofs.Cases.{lt-or-le}
 use Rattle.theory.specs.Sum.{sum, cells}
 use Rattle.theory.specs.Saving.{tick, before}
 use Rattle.theory.proofs.SumLaws.{sum-ext, sum-zero, sum-split}
-use Rattle.theory.proofs.RunLaws.{tick-past}
 use Rattle.curve.specs.declared.Run.{Run}
 use Rattle.curve.specs.declared.Curve.{Curve}
 use Rattle.curve.specs.Curve.{Good, noRun, runAt, lengthAt, savingAt, ticksOf, slowestOf, savingOf}
@@ -23,9 +22,10 @@ use Rattle.board.specs.declared.Board.{Board}
 use Rattle.board.specs.Board.{WellFormed, view, curveAt, blankCurve}
 use Rattle.network.specs.Net.{gainOf, Bends}
 use Rattle.network.specs.Net as net
+use Rattle.network.proofs.Gains.{tick-blank, gain-none}
 use Rattle.wiring.specs.Laid.{RunsLaid}
 
--- ---- ticks of runs that are the same, and of runs that are not there
+-- ---- ticks of runs that are the same
 tick-ext : (L L′ S S′ : ℕ → ℕ) (r : ℕ) → ((i : ℕ) → i < r → L i ≡ L′ i) → ((i : ℕ) → i < r → S i ≡ S′ i) → (j : ℕ) → tick L S r j ≡ tick L′ S′ r j
 unfolding tick
 tick-ext L L′ S S′ zero l s j = refl
@@ -36,19 +36,6 @@ tick-ext L L′ S S′ (suc r) l s j =
       tick-ext L L′ S S′ r (λ i h. l i (omega arith)) (λ i h. s i (omega arith)) j,
       s r (omega arith),
     )
-
-tick-shut : (L S : ℕ → ℕ) (n j : ℕ) → L n ≡ 0 → tick L S (suc n) j ≡ tick L S n j
-unfolding tick sum
-tick-shut L S n j none =
-    ⊎-elim (λ (h : j < before L S n). rw (lt-ltb j (before L S n) h))
-    (λ (h : before L S n ≤ j). tick-past L S (suc n) j (omega (arith, none)) ∙ sym (tick-past L S n j h))
-    (lt-or-le j (before L S n))
-
-tick-none : (L S : ℕ → ℕ) (r k : ℕ) → ((i : ℕ) → r ≤ i → i < r + k → L i ≡ 0) → (j : ℕ) → tick L S (r + k) j ≡ tick L S r j
-tick-none L S r zero none j = let e : r + 0 ≡ r = omega arith in ap (λ n. tick L S n j) e
-tick-none L S r (suc k) none j =
-    let e : r + suc k ≡ suc (r + k) = omega arith in
-    ap (λ n. tick L S n j) e ∙ tick-shut L S (r + k) j (none (r + k) (omega arith) (omega arith)) ∙ tick-none L S r k (λ i a h. none i a (omega arith)) j
 
 sum-none : (L : ℕ → ℕ) (r k : ℕ) → ((i : ℕ) → r ≤ i → i < r + k → L i ≡ 0) → sum (r + k) L ≡ sum r L
 sum-none L r k none =
@@ -68,10 +55,7 @@ module _ (c : Curve) (ok : Good c) where
   -- all four places save what the curve does, in as many ticks, and no place saves more than the one before it
   four-save : (j : ℕ) → tick (lengthAt c) (savingAt c) 4 j ≡ savingOf c j
   unfolding savingOf
-  four-save j =
-      let k = 4 - c .count in
-      let e : 4 ≡ c .count + k = omega (arith, ok .count-to) in
-      ap (λ n. tick (lengthAt c) (savingAt c) n j) e ∙ tick-none (lengthAt c) (savingAt c) (c .count) k (λ i a h. length-none i a (omega (arith, e))) j
+  four-save = tick-blank (lengthAt c) (savingAt c) (c .count) 4 (ok .count-to) length-none
 
   four-last : c .fastest .0 + sum 4 (lengthAt c) ≤ 4095
   unfolding slowestOf ticksOf
@@ -126,8 +110,7 @@ module _ (b : Board) (ok : WellFormed b) (lengths savings : List ℕ) (laid : Ru
       ∙ four-save (curveAt b p) (ok .curves p h) j
 
   pub flat-saves : (a : ℕ) → b .parts ≤ a → (j : ℕ) → gainOf lengths savings a j ≡ 0
-  unfolding gainOf tick
-  flat-saves a h j = tick-none (net.lengthAt lengths a) (net.savingAt savings a) 0 4 (λ i z l. length-flat a i l h) j
+  flat-saves a h = gain-none lengths savings a (λ i l. length-flat a i l h)
 
   pub part-bends : (p : ℕ) → p < b .parts → Bends (curveAt b p .fastest .0) lengths savings p
   part-bends p h =
