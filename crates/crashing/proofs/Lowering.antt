@@ -1,7 +1,7 @@
 -- Lowering: what each way out gives, and that arcs stay kept and labels stay labels.
 -- Assumes nothing.
 use mathlib.Core.Path.{_≡_, refl, sym, ap, _∙_}
-use mathlib.Core.Logic.{_≢_}
+use mathlib.Core.Logic.{_≢_, _⊎_, inl, inr}
 use mathlib.Core.List.{List}
 use Prim.Native.Nat.{ℕ, _+_, _-_, _≤_, _<_}
 use native.Mathlib.Omega.{arith}
@@ -15,7 +15,7 @@ use Rattle.network.specs.Flow.{Lowers, World}
 use Rattle.network.specs.Kept.{Kept, AllKept, Placed, Ready}
 use Rattle.crashing.specs.declared.Tight.{Tight}
 use Rattle.labelling.specs.Label.{Up, Down, Shut, Way, Way.on, Way.back, Labels, Labelled}
-use Rattle.crashing.specs.Lower.{Open, Slack, Scanned, Moved, Shifted, Tighter}
+use Rattle.crashing.specs.Lower.{Open, Found, Tightened, Scanned, Moved, Shifted, Tighter}
 use Rattle.crashing.specs.Turn.{Lowered}
 
 module _ (tail head low high x t rank : List ℕ) (a : ℕ) where
@@ -25,45 +25,55 @@ module _ (tail head low high x t rank : List ℕ) (a : ℕ) where
   abbrev rv : ℕ
   rv = cells rank (cells head a)
 
-  -- ---- the ways of `slack`
-  pub slack-same : ru ≡ 0 → rv ≡ 0 → Slack tail head low high x t rank a 1000000
-  slack-same e f = record { opens = record { into = λ z w. absurd (omega arith); out = λ z w y. absurd (omega arith) }; some = λ s. omega arith }
-
-  pub slack-both : (ru ≡ 0 → ⊥) → (rv ≡ 0 → ⊥) → Slack tail head low high x t rank a 1000000
-  slack-both e f = record { opens = record { into = λ z w. absurd (omega arith); out = λ z w y. absurd (omega arith) }; some = λ s. omega arith }
-
-  pub slack-empty : (ru ≡ 0 → ⊥) → cells x a ≡ 0 → Slack tail head low high x t rank a 1000000
-  slack-empty e f = record { opens = record { into = λ z w. absurd (omega arith); out = λ z w y. absurd (omega arith) }; some = λ s. omega arith }
-
-  module _ (k : Kept tail head low high x (cells t) a) where
-    pub low-covers : cells t (cells tail a) + cells low a ≤ cells t (cells head a)
-    low-covers = k .not-early
-
-    pub high-covers : (cells x a ≡ 0 → ⊥) → cells t (cells head a) ≤ cells t (cells tail a) + cells high a
-    high-covers n = k .not-late (omega arith)
-
-    pub slack-into : ru ≡ 0 → (rv ≡ 0 → ⊥) → (r : ℕ) → r ≡ cells t (cells head a) - (cells t (cells tail a) + cells low a) → Slack tail head low high x t rank a r
-    slack-into e f r q = record {
-      opens = record { into = λ z w. omega (arith, k .not-early); out = λ z w y. absurd (omega arith) };
-      some = λ s.
-          elim (ℕ-discrete (cells t (cells tail a) + cells low a) (cells t (cells head a))) [
-            | yes w ↦ omega (arith, s .up (omega arith) (record { tight = w }))
-            | no w ↦ omega (arith, k .not-early)
-          ];
-    }
-
-    pub slack-out : (ru ≡ 0 → ⊥) → rv ≡ 0 → (cells x a ≡ 0 → ⊥) → (r : ℕ) → r ≡ cells t (cells tail a) + cells high a - cells t (cells head a) → Slack tail head low high x t rank a r
-    slack-out e f n r q = record {
-      opens = record { into = λ z w. absurd (omega arith); out = λ z w y. omega (arith, high-covers n) };
-      some = λ s.
-          elim (ℕ-discrete (cells t (cells tail a) + cells high a) (cells t (cells head a))) [
-            | yes w ↦ omega (arith, s .down (omega arith) (record { some = omega arith; tight = w }))
-            | no w ↦ omega (arith, high-covers n)
-          ];
-    }
-
   open-less : {d e : ℕ} → e ≤ d → Open tail head low high x t rank a d → Open tail head low high x t rank a e
   open-less l o = record { into = λ z w. omega (arith, o .into z w); out = λ z w y. omega (arith, o .out z w y) }
+
+  -- ---- the ways of `tighten`
+  module _ (g : Tight) where
+    keeps : Open tail head low high x t rank a (g .slack) → Tightened tail head low high x t rank a g g
+    keeps o = record { less = omega arith; opens = o; from = inl refl }
+
+    pub tighten-none : ru ≡ 0 → rv ≡ 0 → Tightened tail head low high x t rank a g g
+    tighten-none e f = keeps (record { into = λ z w. absurd (omega arith); out = λ z w y. absurd (omega arith) })
+
+    pub tighten-both : (ru ≡ 0 → ⊥) → (rv ≡ 0 → ⊥) → Tightened tail head low high x t rank a g g
+    tighten-both e f = keeps (record { into = λ z w. absurd (omega arith); out = λ z w y. absurd (omega arith) })
+
+    pub tighten-empty : (ru ≡ 0 → ⊥) → cells x a ≡ 0 → Tightened tail head low high x t rank a g g
+    tighten-empty e f = keeps (record { into = λ z w. absurd (omega arith); out = λ z w y. absurd (omega arith) })
+
+    -- an arc's own slack against the least so far
+    against : (s : ℕ) (r : Tight) → Open tail head low high x t rank a s → (Shut tail head low high x t rank a → 0 < s) → Tighter g s a r → Tightened tail head low high x t rank a g r
+    against s r o n k =
+        elim (decLt s (g .slack)) [
+          | yes l ↦ rw (k .takes l) (record { less = omega arith; opens = o; from = inr (record { arc = refl; some = n }) })
+          | no l ↦ let m : g .slack ≤ s = omega arith in rw (k .keeps m) (keeps (open-less m o))
+        ]
+
+    module _ (k : Kept tail head low high x (cells t) a) where
+      pub low-covers : cells t (cells tail a) + cells low a ≤ cells t (cells head a)
+      low-covers = k .not-early
+
+      pub high-covers : (cells x a ≡ 0 → ⊥) → cells t (cells head a) ≤ cells t (cells tail a) + cells high a
+      high-covers n = k .not-late (omega arith)
+
+      pub tighten-into : ru ≡ 0 → (rv ≡ 0 → ⊥) → (s : ℕ) (r : Tight) → s ≡ cells t (cells head a) - (cells t (cells tail a) + cells low a) → Tighter g s a r →
+          Tightened tail head low high x t rank a g r
+      tighten-into e f s r q =
+          against s r (record { into = λ z w. omega (arith, k .not-early); out = λ z w y. absurd (omega arith) }) (λ c.
+          elim (ℕ-discrete (cells t (cells tail a) + cells low a) (cells t (cells head a))) [
+            | yes w ↦ omega (arith, c .up (omega arith) (record { tight = w }))
+            | no w ↦ omega (arith, k .not-early)
+          ])
+
+      pub tighten-out : (ru ≡ 0 → ⊥) → rv ≡ 0 → (cells x a ≡ 0 → ⊥) → (s : ℕ) (r : Tight) → s ≡ cells t (cells tail a) + cells high a - cells t (cells head a) → Tighter g s a r →
+          Tightened tail head low high x t rank a g r
+      tighten-out e f n s r q =
+          against s r (record { into = λ z w. absurd (omega arith); out = λ z w y. omega (arith, high-covers n) }) (λ c.
+          elim (ℕ-discrete (cells t (cells tail a) + cells high a) (cells t (cells head a))) [
+            | yes w ↦ omega (arith, c .down (omega arith) (record { some = omega arith; tight = w }))
+            | no w ↦ omega (arith, high-covers n)
+          ])
 
 pub kept-at : (arcs : ℕ) (tail head low high x t : List ℕ) (a : ℕ) → AllKept arcs tail head low high x (cells t) → a < arcs → Kept tail head low high x (cells t) a
 kept-at arcs tail head low high x t a k h = k .kept a h
@@ -84,29 +94,24 @@ module _ (tail head low high x t rank : List ℕ) (most : ℕ) where
     tight = λ e l. absurd (omega arith);
   }
 
-  pub scan-more : (a : ℕ) (g : Tight) (s : ℕ) (g′ : Tight) → Scanned tail head low high x t rank a most g → Slack tail head low high x t rank a s → Tighter g s a g′ →
-      Scanned tail head low high x t rank (a + 1) most g′
-  scan-more a g s g′ c k r =
-      elim (decLt s (g .slack)) [
-        | yes l ↦
-            rw (r .takes l) (record {
-              within = omega (arith, c .within);
-              opens = λ b h.
-                  below-suc {P = λ b. Open tail head low high x t rank b s}
-                  (λ b m. open-less tail head low high x t rank b (omega arith) (c .opens b m)) (k .opens) b (omega arith);
-              found = λ e m. omega arith;
-              tight = λ e m z. omega (arith, k .some z);
-            })
-        | no l ↦
-            let m : g .slack ≤ s = omega arith in
-            rw (r .keeps m) (record {
-              within = c .within;
-              opens = λ b h.
-                  below-suc {P = λ b. Open tail head low high x t rank b (g .slack)} (c .opens) (open-less tail head low high x t rank a m (k .opens)) b (omega arith);
-              found = λ e n. omega (arith, c .found e n);
-              tight = c .tight;
-            })
-      ]
+  module _ (a : ℕ) (g r : Tight) (c : Scanned tail head low high x t rank a most g) (k : Tightened tail head low high x t rank a g r) where
+    found : (r ≡ g) ⊎ Found tail head low high x t rank a r → r .slack ≡ 0 → 0 < most → r .arc < a + 1
+    found (inl e) z m = omega (arith, c .found (ap (λ (y : Tight). y .slack) (sym e) ∙ z) m, ap (λ (y : Tight). y .arc) e)
+    found (inr f) z m = omega (arith, f .arc)
+
+    tight : (r ≡ g) ⊎ Found tail head low high x t rank a r → r .slack ≡ 0 → 0 < most → Shut tail head low high x t rank (r .arc) → ⊥
+    tight (inl e) z m h = c .tight (ap (λ (y : Tight). y .slack) (sym e) ∙ z) m (rw (ap (λ (y : Tight). y .arc) e) at h)
+    tight (inr f) z m h = omega (arith, f .some (rw (f .arc) at h))
+
+    pub scan-more : Scanned tail head low high x t rank (a + 1) most r
+    scan-more = record {
+      within = omega (arith, k .less, c .within);
+      opens = λ b h.
+          below-suc {P = λ b. Open tail head low high x t rank b (r .slack)}
+          (λ b m. open-less tail head low high x t rank b (k .less) (c .opens b m)) (k .opens) b (omega arith);
+      found = found (k .from);
+      tight = tight (k .from);
+    }
 
   pub scan-ends : (arcs a : ℕ) (g : Tight) → a ≤ arcs → arcs ≤ a → Scanned tail head low high x t rank a most g → Scanned tail head low high x t rank arcs most g
   scan-ends arcs a g l h c = let e : a ≡ arcs = omega arith in rw e at c

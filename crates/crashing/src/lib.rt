@@ -7,42 +7,10 @@ ghost use Rattle.theory.specs.Sum.{cells};
 ghost use Rattle.network.specs.Net.{netOf};
 ghost use Rattle.network.specs.Kept.{Kept, AllKept, Placed, Ready};
 ghost use Rattle.network.specs.Crash.{Wide, Good, Crashed};
-ghost use Rattle.crashing.specs.Lower.{Slack, Tighter, Scanned, Moved, Shifted};
+ghost use Rattle.crashing.specs.Lower.{Tighter, Tightened, Scanned, Moved, Shifted};
 ghost use Rattle.crashing.specs.Turn.{State, Turned, Lowerable, Lowered};
 
 // ---- lowering
-// By how much the labelled nodes may go down as far as arc `a` goes; a million where it does not matter to `a`.
-pub fn slack(
-    tail: &[usize; 448],
-    head: &[usize; 448],
-    low: &[u32; 448],
-    high: &[u32; 448],
-    x: &[u32; 448],
-    t: &[u32; 130],
-    rank: &[usize; 130],
-    a: usize,
-) -> u32
-    requires { ⌜ Placed (now tail) (now head) (now low) (now high) (now t) a ⌝ }
-    requires { ⌜ Kept (now tail) (now head) (now low) (now high) (now x) (cells (now t)) a ⌝ }
-    ensures { λ r. ⌜ Slack (now (tail .entry)) (now (head .entry)) (now (low .entry)) (now (high .entry)) (now (x .entry)) (now (t .entry)) (now (rank .entry)) a r ⌝ }
-{
-    let u = tail[a];
-    let v = head[a];
-    if rank[u] == 0 {
-        if rank[v] == 0 {
-            return 1000000;
-        }
-        return t[v] - (t[u] + low[a]);
-    }
-    if rank[v] != 0 {
-        return 1000000;
-    }
-    if x[a] == 0 {
-        return 1000000;
-    }
-    t[u] + high[a] - t[v]
-}
-
 // The least slack so far, and the arc that has it.
 pub struct Tight {
     pub slack: u32,
@@ -56,6 +24,39 @@ fn tighter(g: Tight, s: u32, a: usize) -> Tight
         return Tight { slack: s, arc: a };
     }
     g
+}
+
+// Arc `a` with one labelled end is looked at: it may be the tightest so far.
+fn tighten(
+    tail: &[usize; 448],
+    head: &[usize; 448],
+    low: &[u32; 448],
+    high: &[u32; 448],
+    x: &[u32; 448],
+    t: &[u32; 130],
+    rank: &[usize; 130],
+    g: Tight,
+    a: usize,
+) -> Tight
+    requires { ⌜ Placed (now tail) (now head) (now low) (now high) (now t) a ⌝ }
+    requires { ⌜ Kept (now tail) (now head) (now low) (now high) (now x) (cells (now t)) a ⌝ }
+    ensures { λ r. ⌜ Tightened (now (tail .entry)) (now (head .entry)) (now (low .entry)) (now (high .entry)) (now (x .entry)) (now (t .entry)) (now (rank .entry)) a g r ⌝ }
+{
+    let u = tail[a];
+    let v = head[a];
+    if rank[u] == 0 {
+        if rank[v] == 0 {
+            return g;
+        }
+        return tighter(g, t[v] - (t[u] + low[a]), a);
+    }
+    if rank[v] != 0 {
+        return g;
+    }
+    if x[a] == 0 {
+        return g;
+    }
+    tighter(g, t[u] + high[a] - t[v], a)
 }
 
 // The least slack of an arc, up to `most`.
@@ -80,7 +81,7 @@ pub fn scan(
     };
     let mut a: usize = 0;
     while a < arcs {
-        g = tighter(g, slack(tail, head, low, high, x, t, rank, a), a);
+        g = tighten(tail, head, low, high, x, t, rank, g, a);
         a = a + 1;
     }
     g

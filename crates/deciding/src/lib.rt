@@ -1,7 +1,6 @@
 // The first times that fit given loads and end at the deadline, or the word that there are none: loads that conserve and have such times prove them cheapest.
 ghost use mathlib.Core.Path.{_≡_};
 ghost use Prim.Native.Nat.{_≤_, _<_};
-ghost use lib.ListN.{length};
 ghost use Rattle.theory.specs.Sum.{cells};
 ghost use Rattle.network.specs.Net.{netOf, Sound, Curved};
 ghost use Rattle.network.specs.Flow.{Decided};
@@ -91,7 +90,7 @@ fn visit(
     low: &[u32; 448],
     high: &[u32; 448],
     x: &[u32; 448],
-    order: &[usize],
+    order: &[usize; 896],
     due: u32,
     t: &mut [u32; 130],
     k: usize,
@@ -99,7 +98,7 @@ fn visit(
 ) -> usize
     requires { ⌜ Fair arcs (now tail) (now head) (now low) (now high) due ⌝ }
     requires { ⌜ Within due (now t) ⌝ }
-    requires { ⌜ k < length (now order) ⌝ }
+    requires { ⌜ k < 896 ⌝ }
     requires { ⌜ r ≤ 2 ⌝ }
     ensures { λ q. ⌜ Visited (now (tail .entry)) (now (head .entry)) (now (low .entry)) (now (high .entry)) (now (x .entry)) arcs due (now (t .entry)) r (now (t .exit)) q ⌝ }
 {
@@ -121,7 +120,7 @@ fn round(
     low: &[u32; 448],
     high: &[u32; 448],
     x: &[u32; 448],
-    order: &[usize],
+    order: &[usize; 896],
     due: u32,
     t: &mut [u32; 130],
     before: usize,
@@ -136,7 +135,7 @@ fn round(
     }
     let mut r: usize = 0;
     let mut k: usize = 0;
-    while k < order.len() {
+    while k < 896 {
         r = visit(arcs, tail, head, low, high, x, order, due, t, k, r);
         k = k + 1;
     }
@@ -151,7 +150,7 @@ fn rounds(
     low: &[u32; 448],
     high: &[u32; 448],
     x: &[u32; 448],
-    order: &[usize],
+    order: &[usize; 896],
     due: u32,
     t: &mut [u32; 130],
 ) -> usize
@@ -272,7 +271,7 @@ pub fn decide(
     lengths: &[u32; 256],
     savings: &[u32; 256],
     x: &[u32; 448],
-    order: &[usize],
+    order: &[usize; 896],
     due: u32,
     t: &mut [u32; 130],
 ) -> bool

