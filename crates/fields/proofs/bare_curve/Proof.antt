@@ -6,7 +6,6 @@ use Rattle.fields.proofs.bare_curve.Tie as tie
 use Rattle.fields.proofs.bare_curve.Reads as reads
 use Rattle.fields.proofs.bare_curve.Lts as lts
 
--- src/lib.rt:61:1
 returns : tie.Need-returns
 unfolding bare
 returns c = refl
