@@ -1,6 +1,5 @@
 use mathlib.Core.Path.{refl}
 use Rattle.fields.specs.CurveFile.{bare}
-use borrow.Author.Needs.{needs}
 use Rattle.fields.proofs.bare_curve.Statement.{statement}
 use Rattle.fields.proofs.bare_curve.Tie as tie
 use Rattle.fields.proofs.bare_curve.Reads as reads

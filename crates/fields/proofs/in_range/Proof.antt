@@ -1,7 +1,6 @@
 use Rattle.base.specs.Pick.{pick}
 use Rattle.base.proofs.Tests.{tests}
 use Rattle.fields.specs.Parse.{rangedAt}
-use borrow.Author.Needs.{needs}
 use Rattle.fields.proofs.in_range.Statement.{statement}
 use Rattle.fields.proofs.in_range.Tie as tie
 use Rattle.fields.proofs.in_range.Reads as reads
