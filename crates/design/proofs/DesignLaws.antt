@@ -1,25 +1,24 @@
 -- A design file: what is read is a well-formed board and the whole file, a well-formed board written is read back, and an accepted file is
 -- rewritten byte for byte.
 -- Assumes nothing.
-use mathlib.Core.Path.{_≡_, refl, sym, ap, _∙_}
+use mathlib.Core.Path.{_≡_, refl, sym, _∙_}
 use mathlib.Core.Bool.{Bool, true, false}
-use mathlib.Core.Logic.{⊎-elim, _≢_}
-use mathlib.Core.List.{List, [], _++_}
+use mathlib.Core.Logic.{_≢_}
+use mathlib.Core.List.{List, _++_}
 use Prim.Native.Nat.{ℕ, zero, suc, _+_, _*_, _-_, _≤_, _<_}
 use native.Mathlib.Omega.{arith}
-use lib.Dec.{ltb, eqb}
+use lib.Dec.{eqb}
 use lib.ListN.{length, getD, length-append}
 use borrow.Author.Tests.{eqb-true, eqb-false, ltb-false, eq-eqb, ne-eqb, le-ltb}
 use Rattle.base.specs.Pick.{pick}
 use Rattle.groups.specs.declared.Read.the-variants.{Number}
-use Rattle.groups.specs.Number.{limit, numberAt, encode}
+use Rattle.groups.specs.Number.{numberAt, encode}
 use Rattle.groups.proofs.RoundTrip.{Bytes}
 use Rattle.curve.specs.declared.Curve.{Curve}
 use Rattle.curve.specs.Curve.{Good}
-use Rattle.fields.specs.Parse.{Parse, got, stop, and-then, repeat, number, fieldAt}
-use Rattle.fields.specs.Writing.{inRow}
-use Rattle.fields.specs.CurveFile.{curveFrom, curveBytes}
-use Rattle.fields.proofs.ParseLaws.{Then, then-got, number-read, Passed, pick-passed, pick-not-stopped, got-same, Ranged, field-got}
+use Rattle.fields.specs.Parse.{Parse, got, and-then, number, fieldAt}
+use Rattle.fields.specs.CurveFile.{curveBytes}
+use Rattle.fields.proofs.ParseLaws.{then-got, number-read, pick-passed, pick-not-stopped, got-same, field-got}
 use Rattle.fields.proofs.Stands.{Stands, stands-first, stands-then, stands-join, stands-front, stands-whole, number-reads, number-stands, field-reads-back, field-stands, field-next}
 use Rattle.fields.proofs.Filling.{Filling}
 use Rattle.fields.proofs.WritingLaws.{row-size}
@@ -29,8 +28,8 @@ use Rattle.board.specs.declared.Board.{Board}
 use Rattle.board.specs.Board.{noCurve, noLink, blankCurve, curveAt, linkAt, order, WellFormed}
 use Rattle.board.specs.Tests.{blankCurves, blankLinks, belowOf}
 use Rattle.board.proofs.LinkLaws.{passed, below-one, below-order}
-use Rattle.design.specs.Design.{versionAt, inPlace, partFrom, partsFrom, linkOf, above, linkFrom, linkIn, linksFrom, wholeAt, boardOf, linkedFrom, bodyFrom, headFrom, designOf, linkBytes, partsBytes, linksBytes, linkedBytes, bodyBytes, headBytes, fileOf}
-use Rattle.design.proofs.Rows.{RowRead, OneRead, row-read, row-reads-back}
+use Rattle.design.specs.Design.{versionAt, partFrom, partsFrom, linkOf, above, linkFrom, linkIn, linksFrom, wholeAt, boardOf, linkedFrom, bodyFrom, headFrom, designOf, linkBytes, partsBytes, linksBytes, linkedBytes, bodyBytes, headBytes, fileOf}
+use Rattle.design.proofs.Rows.{RowRead, row-read, row-reads-back}
 
 -- ---- the version
 version-told : (s : List ℕ) (v n : ℕ) → versionAt s ≡ got v n → (v ≡ 1) × (numberAt s 0 ≡ Number 1 n)

@@ -15,7 +15,7 @@ use Rattle.theory.proofs.SumLaws.{below-suc}
 use Rattle.groups.proofs.RoundTrip.{Bytes}
 use Rattle.fields.specs.Parse.{Parse, got, stop, and-then, repeat}
 use Rattle.fields.specs.Writing.{inRow}
-use Rattle.fields.proofs.ParseLaws.{Then, then-got, got-same, repeat-on, repeat-fault, repeat-keeps}
+use Rattle.fields.proofs.ParseLaws.{then-got, got-same, repeat-on, repeat-fault, repeat-keeps}
 use Rattle.fields.proofs.Stands.{Stands, stands-none, stands-first, stands-then, stands-join}
 use Rattle.fields.proofs.Filling.{Filling, filling-none, filling-more, filling-all}
 use Rattle.design.specs.Design.{inPlace}

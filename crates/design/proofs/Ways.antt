@@ -3,10 +3,9 @@
 use mathlib.Core.Path.{_≡_, refl, sym, ap, _∙_}
 use mathlib.Core.Bool.{Bool, true, false, not}
 use mathlib.Core.List.{List}
-use Prim.Native.Nat.{ℕ, zero, suc, _+_, _-_, _≤_, _<_}
+use Prim.Native.Nat.{ℕ, _+_, _-_, _≤_, _<_}
 use native.Mathlib.Omega.{arith}
-use native.Mathlib.Numerals.{add-one}
-use lib.Dec.{ltb, eqb}
+use lib.Dec.{eqb}
 use lib.ListN.{length, getD, set, length-set}
 use lib.Seq.{getD-set-same}
 use borrow.Author.Tests.{not-true, not-false, lt-ltb, le-ltb, eq-eqb, ne-eqb}
@@ -23,7 +22,7 @@ use Rattle.curve.specs.declared.Curve.{Curve}
 use Rattle.fields.specs.declared.CurveRead.{CurveRead}
 use Rattle.fields.specs.Parse.{Parse, got, stop, and-then, repeat, number, fieldAt}
 use Rattle.fields.specs.CurveFile.{curveFrom, curveRead}
-use Rattle.fields.proofs.ParseLaws.{Ranged, field-got}
+use Rattle.fields.proofs.ParseLaws.{field-got}
 use Rattle.fields.proofs.Ways.{read-got, read-stop}
 use Rattle.board.specs.declared.Link.{Link}
 use Rattle.board.specs.declared.Board.{Board}

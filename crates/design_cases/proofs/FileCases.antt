@@ -1,12 +1,12 @@
 -- Files of 01, computed from the definitions: boards K and D read and written, and a file for each fault with its place.
 -- Assumes nothing.
-use mathlib.Core.Path.{_≡_, refl, sym, ap, _∙_}
+use mathlib.Core.Path.{_≡_, refl}
 use mathlib.Core.Bool.{Bool, true, false}
-use mathlib.Core.List.{List, [], _∷_, _++_}
-use Prim.Native.Nat.{ℕ, zero, suc, _<_}
+use mathlib.Core.List.{List, [], _∷_}
+use Prim.Native.Nat.{ℕ, zero, suc}
 use native.Mathlib.Omega.{arith}
 use lib.Dec.{ltb}
-use lib.ListN.{length, getD}
+use lib.ListN.{length}
 use borrow.Author.Tests.{ltb-true}
 use Rattle.base.specs.Pick.{pick}
 use Rattle.refusal.specs.declared.Why.the-variants.{CutShort, NotShortest, WrongVersion, OutOfRange, SavingNotBelow, PowerBelowSavings, LinkNotAbove, BytesAfter}

@@ -1,9 +1,8 @@
 -- A curve as bytes: what is read is a good curve, a good curve written is read back, and what is read is rewritten byte for byte.
 -- Assumes nothing.
-use mathlib.Core.Path.{_≡_, refl, sym, ap, _∙_}
-use mathlib.Core.Bool.{true}
-use mathlib.Core.List.{List, [], _++_}
-use Prim.Native.Nat.{ℕ, zero, suc, _+_, _*_, _-_, _≤_, _<_}
+use mathlib.Core.Path.{_≡_, refl, ap, _∙_}
+use mathlib.Core.List.{List, _++_}
+use Prim.Native.Nat.{ℕ, _+_, _-_, _≤_, _<_}
 use native.Mathlib.Omega.{arith}
 use mathlib.Core.Logic.{⊎-elim}
 use lib.ListN.{length, length-append}
@@ -11,18 +10,18 @@ use borrow.Author.Tests.{leb-true, le-leb}
 use Rattle.base.specs.Pick.{pick}
 use Rattle.base.proofs.Cases.{lt-or-le}
 use Rattle.groups.specs.Number.{encode}
-use Rattle.groups.proofs.Forms.{size-1, size-2, size-le, size-positive}
+use Rattle.groups.proofs.Forms.{size-1, size-2, size-le}
 use Rattle.groups.proofs.RoundTrip.{Bytes}
 use Rattle.curve.specs.declared.Run.{Run}
 use Rattle.curve.specs.declared.Curve.{Curve}
 use Rattle.curve.specs.Curve.{noRun, runAt, lengthAt, savingAt, savingsOf, Good}
-use Rattle.fields.specs.Parse.{Parse, got, stop, and-then, repeat, fieldAt}
-use Rattle.fields.specs.CurveFile.{bare, runFrom, runsFrom, curveFrom, runBytes, runsBytes, curveBytes}
-use Rattle.fields.proofs.ParseLaws.{Then, then-got, Passed, pick-passed, got-same, Ranged, field-got}
+use Rattle.fields.specs.Parse.{Parse, got, and-then, fieldAt}
+use Rattle.fields.specs.CurveFile.{runsFrom, curveFrom, runBytes, runsBytes, curveBytes}
+use Rattle.fields.proofs.ParseLaws.{then-got, pick-passed, got-same, field-got}
 use Rattle.fields.proofs.Stands.{Stands, stands-first, stands-then, stands-join, field-reads-back, field-stands, field-next}
 use Rattle.fields.proofs.WritingLaws.{row-size}
 use Rattle.fields.proofs.Filling.{Filling, filling-all}
-use Rattle.fields.proofs.RunLaws.{RunsGood, RunsRead, runs-read, RunsBack, runs-back}
+use Rattle.fields.proofs.RunLaws.{RunsRead, runs-read, runs-back}
 
 -- ---- a curve that was read, field by field
 pub record CurveTold (s : List ℕ) (at : ℕ) (c : Curve) (next : ℕ) : Type 0 where

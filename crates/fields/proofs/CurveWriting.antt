@@ -1,7 +1,7 @@
 -- The ways of the curve's writers.
 -- Assumes nothing.
-use mathlib.Core.Path.{_≡_, refl, sym, ap, _∙_}
-use mathlib.Core.List.{List, [], _++_}
+use mathlib.Core.Path.{_≡_, refl}
+use mathlib.Core.List.{List, _++_}
 use Prim.Native.Nat.{ℕ, _+_, _≤_, _<_}
 use native.Mathlib.Omega.{arith}
 use lib.ListN.{length, length-append}
@@ -10,7 +10,7 @@ use Rattle.groups.specs.Number.{encode}
 use Rattle.curve.specs.declared.Run.{Run}
 use Rattle.curve.specs.declared.Curve.{Curve}
 use Rattle.curve.specs.Curve.{runAt, Good}
-use Rattle.fields.specs.Writing.{Wrote, inRow}
+use Rattle.fields.specs.Writing.{Wrote}
 use Rattle.fields.specs.CurveFile.{runBytes, runsBytes, curveBytes}
 use Rattle.fields.proofs.CurveFileLaws.{curve-size-le}
 use Rattle.fields.proofs.WritingLaws.{wrote-more, first-room, then-room, row-none, row-counted, row-room, row-wrote-none, row-wrote-more, row-ended}

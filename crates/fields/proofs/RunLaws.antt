@@ -7,11 +7,11 @@ use mathlib.Core.List.{List, [], _++_}
 use Prim.Native.Nat.{ℕ, zero, suc, _+_, _-_, _≤_, _<_}
 use native.Mathlib.Omega.{arith}
 use native.Mathlib.Nat.{add-zero}
-use lib.ListN.{length, getD, set, length-set, getD-replicate, length-replicate}
+use lib.ListN.{length, set, length-set, getD-replicate}
 use lib.Seq.{getD-set-same, getD-set-other}
 use borrow.Author.Tests.{ltb-true, lt-ltb, ne-eqb}
 use Rattle.base.specs.Pick.{pick}
-use Rattle.base.proofs.Cases.{eq-or-ne, lt-or-le}
+use Rattle.base.proofs.Cases.{lt-or-le}
 use Rattle.theory.proofs.SumLaws.{below-suc}
 use Rattle.groups.specs.Number.{encode}
 use Rattle.groups.proofs.RoundTrip.{Bytes}
@@ -19,10 +19,10 @@ use Rattle.curve.specs.declared.Run.{Run}
 use Rattle.curve.specs.declared.Curve.{Curve}
 use Rattle.curve.specs.Curve.{noRun, runAt, lengthAt, savingAt, Good}
 use Rattle.curve.specs.Tests.{Sized}
-use Rattle.fields.specs.Parse.{Parse, got, stop, and-then, repeat, fieldAt}
+use Rattle.fields.specs.Parse.{Parse, got, and-then, repeat, fieldAt}
 use Rattle.fields.specs.CurveFile.{bare, withRun, falls, runFrom, runsBytes}
 use Rattle.fields.specs.Writing.{inRow}
-use Rattle.fields.proofs.ParseLaws.{Then, then-got, Passed, pick-passed, got-same, repeat-keeps, Ranged, field-got}
+use Rattle.fields.proofs.ParseLaws.{then-got, pick-passed, got-same, repeat-keeps, field-got}
 use Rattle.fields.proofs.Stands.{Stands, stands-none, stands-first, stands-then, stands-join, field-reads-back, field-stands, field-next}
 use Rattle.fields.proofs.Filling.{Filling, filling-none, filling-more}
 

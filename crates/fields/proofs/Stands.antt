@@ -2,16 +2,16 @@
 -- Assumes nothing.
 use mathlib.Core.Path.{_≡_, refl, sym, ap, _∙_}
 use mathlib.Core.List.{List, [], _∷_, _++_, append-assoc}
-use Prim.Native.Nat.{ℕ, zero, suc, _+_, _-_, _≤_, _<_}
+use Prim.Native.Nat.{ℕ, _+_, _-_, _≤_, _<_}
 use native.Mathlib.Omega.{arith}
-use native.Mathlib.Nat.{add-zero, add-assoc}
-use lib.ListN.{length, take, drop, length-append, length-drop, take-append-drop}
+use native.Mathlib.Nat.{add-zero}
+use lib.ListN.{length, drop, length-append, length-drop, take-append-drop}
 use lib.Seq.{drop-drop, drop-append-seam}
 use Rattle.groups.specs.declared.Read.the-variants.{Number}
 use Rattle.groups.specs.Number.{limit, numberAt, encode}
 use Rattle.groups.proofs.RoundTrip.{reads-at, writes-back, number-next, number-ends-at, Bytes}
 use Rattle.fields.specs.Parse.{Parse, got, fieldAt}
-use Rattle.fields.proofs.ParseLaws.{Ranged, field-got, field-reads}
+use Rattle.fields.proofs.ParseLaws.{field-got, field-reads}
 
 -- the bytes w stand at a place of s, and end at `next`
 pub record Stands (s : List ℕ) (at : ℕ) (w : List ℕ) (next : ℕ) : Type 0 where
@@ -41,9 +41,6 @@ stands-join {s} {at} {v} {m} {w} {n} x y =
       here = x .here ∙ ap (λ (l : List ℕ). v ++ l) seam ∙ sym (append-assoc v w (y .after));
       ends = omega (arith, x .ends, y .ends, length-append v w);
     }
-
-pub stands-within : {s : List ℕ} {at : ℕ} {w : List ℕ} {n : ℕ} → Stands s at w n → at ≤ length s → n ≤ length s
-stands-within {s} {at} {w} {n} x h = omega (arith, x .ends, length-drop at s, ap length (x .here), length-append w (x .after))
 
 no-more : (l : List ℕ) → length l ≡ 0 → l ≡ []
 no-more [] h = refl

@@ -3,10 +3,8 @@
 use mathlib.Core.Path.{_≡_, refl, sym, ap, _∙_}
 use mathlib.Core.Bool.{Bool, true, false, not}
 use mathlib.Core.List.{List}
-use Prim.Native.Nat.{ℕ, zero, suc, _+_, _-_, _≤_, _<_}
+use Prim.Native.Nat.{ℕ, _+_, _-_, _≤_, _<_}
 use native.Mathlib.Omega.{arith}
-use lib.Dec.{ltb, leb, eqb}
-use lib.ListN.{set}
 use borrow.Author.Tests.{not-true, not-false, le-leb, lt-leb}
 use Rattle.base.specs.Pick.{pick}
 use Rattle.refusal.specs.declared.Why.{Why}
@@ -23,8 +21,8 @@ use Rattle.curve.specs.Tests.{Sized}
 use Rattle.fields.specs.declared.CurveRead.{CurveRead}
 use Rattle.fields.specs.Parse.{Parse, got, stop, and-then, repeat, number, rangedAt, fieldAt}
 use Rattle.fields.specs.CurveFile.{bare, withRun, falls, runFrom, runsFrom, curveFrom, curveRead}
-use Rattle.fields.proofs.ParseLaws.{repeat-on, repeat-fault, Ranged, field-got}
-use Rattle.fields.proofs.RunLaws.{RunsGood, RunsRead, runs-read, runs-sized}
+use Rattle.fields.proofs.ParseLaws.{repeat-on, repeat-fault, field-got}
+use Rattle.fields.proofs.RunLaws.{runs-read, runs-sized}
 
 -- ---- `field`
 module _ (s : List ℕ) (low high at : ℕ) (r : Read) (is : r ≡ numberAt s at) where

@@ -91,8 +91,5 @@ module _ (bytes : ℕ → List ℕ) where
       unfolding inRow
       row-wrote-more next′ buf′ more = rw add-one (wrote-more buf₀ at (inRow bytes i) next buf (bytes i) next′ buf′ so-far more)
 
-      pub row-long : length buf ≡ length buf₀
-      row-long = wrote-long buf₀ at (inRow bytes i) next buf so-far
-
       pub row-ended : (n : ℕ) → i ≤ n → n ≤ i → Wrote buf₀ at (inRow bytes n) next buf
       row-ended n l h = let same : n ≡ i = omega arith in rw same so-far

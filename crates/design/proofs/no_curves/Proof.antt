@@ -6,11 +6,9 @@ use Rattle.design.proofs.no_curves.Reads as reads
 use Rattle.design.proofs.no_curves.Lts as lts
 use Rattle.board.proofs.empty.Reads as empty-reads
 
--- src/lib.rt:62:9
 empty-requires : tie.Need-empty-requires
 empty-requires c κs = search needs
 
--- src/lib.rt:59:1
 returns : tie.Need-returns
 returns c = search (no-curves-are)
 

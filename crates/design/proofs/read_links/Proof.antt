@@ -21,54 +21,42 @@ Inv-loop s parts links at link₀ before₀ next₀ l₀ link before next l = (l
 abbrev μ-loop : tie.MeasureT-loop
 μ-loop s parts links at link₀ before₀ next₀ l₀ link before next l = links - l
 
--- src/lib.rt:179:20
 no-links-requires : tie.Need-no-links-requires Inv-loop μ-loop
 no-links-requires c κs = search needs
 
--- src/lib.rt:183:5
 loop-holds : tie.Need-loop-holds Inv-loop μ-loop
 loop-holds c = (search needs, search (links-start), search (none-before), search (links-long))
 
--- src/lib.rt:184:13
 read-link-requires : tie.Need-read-link-requires Inv-loop μ-loop
 read-link-requires c κs = search needs
 
 enum-told : tie.Need-enum-told Inv-loop μ-loop
 enum-told c = search needs
 
--- src/lib.rt:187:13
 enum-told-2 : tie.Need-enum-told-2 Inv-loop μ-loop
 enum-told-2 c = search needs
 
--- src/lib.rt:187:13
 links-stopped-requires : tie.Need-links-stopped-requires Inv-loop μ-loop
 links-stopped-requires c κs = search needs
 
--- src/lib.rt:187:13
 returns : tie.Need-returns Inv-loop μ-loop
 returns c = search (links-fault)
 
--- src/lib.rt:190:9
 mul-link : tie.Need-mul-link Inv-loop μ-loop
 mul-link c = search needs
 
--- src/lib.rt:190:9
 array-set-from-link : tie.Need-array-set-from-link Inv-loop μ-loop
 array-set-from-link c = search needs
 
--- src/lib.rt:192:13
 add-l : tie.Need-add-l Inv-loop μ-loop
 add-l c = search needs
 
--- src/lib.rt:183:5
 loop-less : tie.Need-loop-less Inv-loop μ-loop
 loop-less c = search needs
 
--- src/lib.rt:183:5
 loop-again : tie.Need-loop-again Inv-loop μ-loop
 loop-again c = (search needs, search (links-on), last-before (c .before .before .before .before .before .loop .link) (c .before .before .before .before .before .loop .l) _ (search needs) (search needs), search (still-long))
 
--- src/lib.rt:175:1
 returns-2 : tie.Need-returns-2 Inv-loop μ-loop
 returns-2 c = search (links-end)
 

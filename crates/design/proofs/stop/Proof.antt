@@ -6,11 +6,9 @@ use Rattle.design.proofs.stop.Reads as reads
 use Rattle.design.proofs.stop.Lts as lts
 use Rattle.board.proofs.empty.Reads as empty-reads
 
--- src/lib.rt:206:16
 empty-requires : tie.Need-empty-requires
 empty-requires c κs = search needs
 
--- src/lib.rt:201:1
 returns : tie.Need-returns
 returns c = search (no-board-is)
 

@@ -17,41 +17,32 @@ Inv-loop b links bytes₀ l₀ bytes l = (l ≤ links) × (bytes ≡ length (lin
 abbrev μ-loop : tie.MeasureT-loop
 μ-loop b links bytes₀ l₀ bytes l = links - l
 
--- src/lib.rt:28:5
 loop-holds : tie.Need-loop-holds Inv-loop μ-loop
 unfolding linksBytes
 loop-holds c = (search needs, row-none _, search needs)
 
--- src/lib.rt:29:20
 mul-link : tie.Need-mul-link Inv-loop μ-loop
 mul-link c = search needs
 
--- src/lib.rt:29:20
 element-copy-out-link : tie.Need-element-copy-out-link Inv-loop μ-loop
 element-copy-out-link c = search needs
 
--- src/lib.rt:30:25
 link-size-requires : tie.Need-link-size-requires Inv-loop μ-loop
 link-size-requires c κs = (search (from-below), search (to-below))
 
--- src/lib.rt:30:17
 add-bytes : tie.Need-add-bytes Inv-loop μ-loop
 add-bytes c = search needs
 
--- src/lib.rt:31:13
 add-l : tie.Need-add-l Inv-loop μ-loop
 add-l c = search needs
 
--- src/lib.rt:28:5
 loop-less : tie.Need-loop-less Inv-loop μ-loop
 loop-less c = search needs
 
--- src/lib.rt:28:5
 loop-again : tie.Need-loop-again Inv-loop μ-loop
 unfolding linksBytes
 loop-again c = (search needs, search (row-counted), search needs)
 
--- src/lib.rt:21:1
 returns : tie.Need-returns Inv-loop μ-loop
 unfolding linksBytes
 returns c = (search (row-counted-all), search needs)

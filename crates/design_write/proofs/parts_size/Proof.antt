@@ -17,41 +17,32 @@ Inv-loop b parts bytes₀ p₀ bytes p = (p ≤ parts) × (bytes ≡ length (par
 abbrev μ-loop : tie.MeasureT-loop
 μ-loop b parts bytes₀ p₀ bytes p = parts - p
 
--- src/lib.rt:43:5
 loop-holds : tie.Need-loop-holds Inv-loop μ-loop
 unfolding partsBytes
 loop-holds c = (search needs, row-none _, search needs)
 
--- src/lib.rt:44:17
 mul-c : tie.Need-mul-c Inv-loop μ-loop
 mul-c c = search needs
 
--- src/lib.rt:44:17
 element-copy-out-c : tie.Need-element-copy-out-c Inv-loop μ-loop
 element-copy-out-c c = search needs
 
--- src/lib.rt:45:25
 curve-size-requires : tie.Need-curve-size-requires Inv-loop μ-loop
 curve-size-requires c κs = search (part-good)
 
--- src/lib.rt:45:17
 add-bytes : tie.Need-add-bytes Inv-loop μ-loop
 add-bytes c = search needs
 
--- src/lib.rt:46:13
 add-p : tie.Need-add-p Inv-loop μ-loop
 add-p c = search needs
 
--- src/lib.rt:43:5
 loop-less : tie.Need-loop-less Inv-loop μ-loop
 loop-less c = search needs
 
--- src/lib.rt:43:5
 loop-again : tie.Need-loop-again Inv-loop μ-loop
 unfolding partsBytes
 loop-again c = (search needs, search (row-counted), search needs)
 
--- src/lib.rt:36:1
 returns : tie.Need-returns Inv-loop μ-loop
 unfolding partsBytes
 returns c = (search (row-counted-all), search needs)

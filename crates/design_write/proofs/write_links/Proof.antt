@@ -16,42 +16,33 @@ Inv-loop buf₀ at b links next₀ l₀ buf next l = (l ≤ links) × (Wrote buf
 abbrev μ-loop : tie.MeasureT-loop
 μ-loop buf₀ at b links next₀ l₀ buf next l = links - l
 
--- src/lib.rt:76:5
 loop-holds : tie.Need-loop-holds Inv-loop μ-loop
 unfolding linksBytes
 loop-holds c = (search needs, row-wrote-none _ _ _)
 
--- src/lib.rt:77:20
 mul-link : tie.Need-mul-link Inv-loop μ-loop
 mul-link c = search needs
 
--- src/lib.rt:77:20
 element-copy-out-link : tie.Need-element-copy-out-link Inv-loop μ-loop
 element-copy-out-link c = search needs
 
--- src/lib.rt:78:9
 write-link-requires : tie.Need-write-link-requires Inv-loop μ-loop
 unfolding linksBytes
 write-link-requires c κs = (search (from-below), search (to-below), search (link-room))
 
--- src/lib.rt:79:13
 add-l : tie.Need-add-l Inv-loop μ-loop
 add-l c = search needs
 
--- src/lib.rt:76:5
 loop-less : tie.Need-loop-less Inv-loop μ-loop
 loop-less c = search needs
 
--- src/lib.rt:76:5
 loop-again : tie.Need-loop-again Inv-loop μ-loop
 unfolding linksBytes
 loop-again c = (search needs, search (row-wrote-more))
 
--- src/lib.rt:69:1
 same-length : tie.Need-same-length Inv-loop μ-loop
 same-length c = search (wrote-long)
 
--- src/lib.rt:69:1
 returns : tie.Need-returns Inv-loop μ-loop
 unfolding linksBytes
 returns c = search (row-ended)

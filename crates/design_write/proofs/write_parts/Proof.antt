@@ -16,42 +16,33 @@ Inv-loop buf₀ at b parts next₀ p₀ buf next p = (p ≤ parts) × (Wrote buf
 abbrev μ-loop : tie.MeasureT-loop
 μ-loop buf₀ at b parts next₀ p₀ buf next p = parts - p
 
--- src/lib.rt:91:5
 loop-holds : tie.Need-loop-holds Inv-loop μ-loop
 unfolding partsBytes
 loop-holds c = (search needs, row-wrote-none _ _ _)
 
--- src/lib.rt:92:17
 mul-c : tie.Need-mul-c Inv-loop μ-loop
 mul-c c = search needs
 
--- src/lib.rt:92:17
 element-copy-out-c : tie.Need-element-copy-out-c Inv-loop μ-loop
 element-copy-out-c c = search needs
 
--- src/lib.rt:93:9
 write-curve-requires : tie.Need-write-curve-requires Inv-loop μ-loop
 unfolding partsBytes
 write-curve-requires c κs = (search (part-good), search (part-room))
 
--- src/lib.rt:94:13
 add-p : tie.Need-add-p Inv-loop μ-loop
 add-p c = search needs
 
--- src/lib.rt:91:5
 loop-less : tie.Need-loop-less Inv-loop μ-loop
 loop-less c = search needs
 
--- src/lib.rt:91:5
 loop-again : tie.Need-loop-again Inv-loop μ-loop
 unfolding partsBytes
 loop-again c = (search needs, search (row-wrote-more))
 
--- src/lib.rt:84:1
 same-length : tie.Need-same-length Inv-loop μ-loop
 same-length c = search (wrote-long)
 
--- src/lib.rt:84:1
 returns : tie.Need-returns Inv-loop μ-loop
 unfolding partsBytes
 returns c = search (row-ended)

@@ -1,12 +1,10 @@
 use mathlib.Core.Path.{refl}
 use Rattle.fields.specs.CurveFile.{bare}
-use borrow.Author.Needs.{needs}
 use Rattle.fields.proofs.bare_curve.Statement.{statement}
 use Rattle.fields.proofs.bare_curve.Tie as tie
 use Rattle.fields.proofs.bare_curve.Reads as reads
 use Rattle.fields.proofs.bare_curve.Lts as lts
 
--- src/lib.rt:61:1
 returns : tie.Need-returns
 unfolding bare
 returns c = refl

@@ -16,39 +16,31 @@ Inv-loop s at count so-far₀ next₀ i₀ so-far next i = (i ≤ count) × (rep
 abbrev μ-loop : tie.MeasureT-loop
 μ-loop s at count so-far₀ next₀ i₀ so-far next i = count - i
 
--- src/lib.rt:131:5
 loop-holds : tie.Need-loop-holds Inv-loop μ-loop
 unfolding repeat
 loop-holds c = (search needs, refl)
 
--- src/lib.rt:132:13
 read-run-requires : tie.Need-read-run-requires Inv-loop μ-loop
 read-run-requires c κs = search needs
 
 enum-told : tie.Need-enum-told Inv-loop μ-loop
 enum-told c = search needs
 
--- src/lib.rt:135:13
 enum-told-2 : tie.Need-enum-told-2 Inv-loop μ-loop
 enum-told-2 c = search needs
 
--- src/lib.rt:135:13
 returns : tie.Need-returns Inv-loop μ-loop
 returns c = search (runs-fault)
 
--- src/lib.rt:139:13
 add-i : tie.Need-add-i Inv-loop μ-loop
 add-i c = search needs
 
--- src/lib.rt:131:5
 loop-less : tie.Need-loop-less Inv-loop μ-loop
 loop-less c = search needs
 
--- src/lib.rt:131:5
 loop-again : tie.Need-loop-again Inv-loop μ-loop
 loop-again c = (search needs, search (runs-on))
 
--- src/lib.rt:123:1
 returns-2 : tie.Need-returns-2 Inv-loop μ-loop
 returns-2 c = search (runs-end)
 

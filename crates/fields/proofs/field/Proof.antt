@@ -7,27 +7,21 @@ use Rattle.fields.proofs.field.Lts as lts
 use Rattle.fields.proofs.in_range.Reads as in-range-reads
 use Rattle.groups.proofs.read_number.Reads as read-number-reads
 
--- src/lib.rt:26:11
 read-number-requires : tie.Need-read-number-requires
 read-number-requires c κs = search needs
 
--- src/lib.rt:27:25
 enum-known-why : tie.Need-enum-known-why
 enum-known-why c = search needs
 
--- src/lib.rt:28:24
 enum-known-value : tie.Need-enum-known-value
 enum-known-value c = search needs
 
--- src/lib.rt:28:41
 in-range-requires : tie.Need-in-range-requires
 in-range-requires c κs = search needs
 
--- src/lib.rt:23:1
 returns : tie.Need-returns
 returns c = search (field-fault, field-ranged)
 
--- src/lib.rt:23:1
 returns-2 : tie.Need-returns-2
 returns-2 c = search (field-fault, field-ranged)
 

@@ -1,23 +1,19 @@
 use Rattle.base.specs.Pick.{pick}
 use Rattle.base.proofs.Tests.{tests}
 use Rattle.fields.specs.Parse.{rangedAt}
-use borrow.Author.Needs.{needs}
 use Rattle.fields.proofs.in_range.Statement.{statement}
 use Rattle.fields.proofs.in_range.Tie as tie
 use Rattle.fields.proofs.in_range.Reads as reads
 use Rattle.fields.proofs.in_range.Lts as lts
 
--- src/lib.rt:36:9
 returns : tie.Need-returns
 unfolding rangedAt pick
 returns c = search tests
 
--- src/lib.rt:42:9
 returns-2 : tie.Need-returns-2
 unfolding rangedAt pick
 returns-2 c = search tests
 
--- src/lib.rt:32:1
 returns-3 : tie.Need-returns-3
 unfolding rangedAt pick
 returns-3 c = search tests

@@ -8,24 +8,19 @@ use Rattle.fields.proofs.is_below.Tie as tie
 use Rattle.fields.proofs.is_below.Reads as reads
 use Rattle.fields.proofs.is_below.Lts as lts
 
--- src/lib.rt:82:9
 returns : tie.Need-returns
 unfolding falls savingAt pick
 returns c = search tests
 
--- src/lib.rt:84:25
 sub-before : tie.Need-sub-before
 sub-before c = search needs
 
--- src/lib.rt:84:18
 mul-before : tie.Need-mul-before
 mul-before c = search needs
 
--- src/lib.rt:84:18
 element-copy-out-before : tie.Need-element-copy-out-before
 element-copy-out-before c = search needs
 
--- src/lib.rt:77:1
 returns-2 : tie.Need-returns-2
 unfolding falls savingAt pick
 returns-2 c = search tests

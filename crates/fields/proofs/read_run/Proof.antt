@@ -8,67 +8,51 @@ use Rattle.fields.proofs.field.Reads as field-reads
 use Rattle.fields.proofs.is_below.Reads as is-below-reads
 use Rattle.fields.proofs.refused.Reads as refused-reads
 
--- src/lib.rt:93:11
 field-requires : tie.Need-field-requires
 field-requires c κs = search needs
 
--- src/lib.rt:94:25
 enum-known-why : tie.Need-enum-known-why
 enum-known-why c = search needs
 
--- src/lib.rt:94:41
 refused-requires : tie.Need-refused-requires
 refused-requires c κs = search needs
 
--- src/lib.rt:96:20
 enum-known-length : tie.Need-enum-known-length
 enum-known-length c = search needs
 
--- src/lib.rt:98:20
 field-requires-2 : tie.Need-field-requires-2
 field-requires-2 c κs = search needs
 
--- src/lib.rt:99:29
 enum-known-why-2 : tie.Need-enum-known-why-2
 enum-known-why-2 c = search needs
 
--- src/lib.rt:99:45
 refused-requires-2 : tie.Need-refused-requires-2
 refused-requires-2 c κs = search needs
 
--- src/lib.rt:101:24
 enum-known-saving : tie.Need-enum-known-saving
 enum-known-saving c = search needs
 
--- src/lib.rt:104:21
 is-below-requires : tie.Need-is-below-requires
 is-below-requires c κs = search needs
 
--- src/lib.rt:105:21
 refused-requires-3 : tie.Need-refused-requires-3
 refused-requires-3 c κs = search needs
 
--- src/lib.rt:105:21
 returns : tie.Need-returns
 returns c = search (run-no-length, run-no-saving, run-not-below, run-read)
 
--- src/lib.rt:108:17
 mul-t24 : tie.Need-mul-t24
 mul-t24 c = search needs
 
--- src/lib.rt:108:17
 element-set-from-more : tie.Need-element-set-from-more
 element-set-from-more c = search needs
 
--- src/lib.rt:89:1
 returns-2 : tie.Need-returns-2
 returns-2 c = search (run-no-length, run-no-saving, run-not-below, run-read)
 
--- src/lib.rt:89:1
 returns-3 : tie.Need-returns-3
 returns-3 c = search (run-no-length, run-no-saving, run-not-below, run-read)
 
--- src/lib.rt:89:1
 returns-4 : tie.Need-returns-4
 returns-4 c = search (run-no-length, run-no-saving, run-not-below, run-read)
 

@@ -5,11 +5,9 @@ use Rattle.fields.proofs.refused.Reads as reads
 use Rattle.fields.proofs.refused.Lts as lts
 use Rattle.fields.proofs.bare_curve.Reads as bare-curve-reads
 
--- src/lib.rt:56:16
 bare-curve-requires : tie.Need-bare-curve-requires
 bare-curve-requires c κs = search needs
 
--- src/lib.rt:50:1
 returns : tie.Need-returns
 returns c = rw (c .bare-curve .ensures)
 

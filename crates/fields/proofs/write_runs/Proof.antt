@@ -16,39 +16,30 @@ Inv-loop buf₀ at c count next₀ i₀ buf next i = (i ≤ count) × (Wrote buf
 abbrev μ-loop : tie.MeasureT-loop
 μ-loop buf₀ at c count next₀ i₀ buf next i = count - i
 
--- src/lib.rt:249:5
 loop-holds : tie.Need-loop-holds Inv-loop μ-loop
 loop-holds c = (search needs, runs-wrote-none _ _ _)
 
--- src/lib.rt:250:37
 mul-write-run : tie.Need-mul-write-run Inv-loop μ-loop
 mul-write-run c = search needs
 
--- src/lib.rt:250:37
 element-copy-out-write-run : tie.Need-element-copy-out-write-run Inv-loop μ-loop
 element-copy-out-write-run c = search needs
 
--- src/lib.rt:250:9
 write-run-requires : tie.Need-write-run-requires Inv-loop μ-loop
 write-run-requires c κs = search (run-room)
 
--- src/lib.rt:251:13
 add-i : tie.Need-add-i Inv-loop μ-loop
 add-i c = search needs
 
--- src/lib.rt:249:5
 loop-less : tie.Need-loop-less Inv-loop μ-loop
 loop-less c = search needs
 
--- src/lib.rt:249:5
 loop-again : tie.Need-loop-again Inv-loop μ-loop
 loop-again c = (search needs, search (runs-wrote-more))
 
--- src/lib.rt:242:1
 same-length : tie.Need-same-length Inv-loop μ-loop
 same-length c = search (wrote-long)
 
--- src/lib.rt:242:1
 returns : tie.Need-returns Inv-loop μ-loop
 returns c = search (runs-wrote)
 
