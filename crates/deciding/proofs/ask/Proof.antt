@@ -37,7 +37,7 @@ element-copy-out-first : tie.Need-element-copy-out-first
 element-copy-out-first c = search needs
 
 add-first : tie.Need-add-first
-add-first c = search (low-fits)
+add-first c = search (low-fits, high-fits)
 
 returns : tie.Need-returns
 returns c = search (asks-head, asks-tail, asks-none, asks-nothing)
@@ -58,7 +58,7 @@ element-copy-out-last : tie.Need-element-copy-out-last
 element-copy-out-last c = search needs
 
 add-last : tie.Need-add-last
-add-last c = search (high-fits)
+add-last c = search (low-fits, high-fits)
 
 mul-t32 : tie.Need-mul-t32
 mul-t32 c = search needs

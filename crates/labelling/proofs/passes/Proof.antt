@@ -46,7 +46,7 @@ element-copy-out-if3-2 : tie.Need-element-copy-out-if3-2
 element-copy-out-if3-2 c = search needs
 
 add-if3 : tie.Need-add-if3
-add-if3 c = search (low-fits)
+add-if3 c = search (low-fits, high-fits)
 
 mul-if3-3 : tie.Need-mul-if3-3
 mul-if3-3 c = search needs
@@ -91,7 +91,7 @@ element-copy-out-if6-2 : tie.Need-element-copy-out-if6-2
 element-copy-out-if6-2 c = search needs
 
 add-if6 : tie.Need-add-if6
-add-if6 c = search (high-fits)
+add-if6 c = search (low-fits, high-fits)
 
 mul-if6-3 : tie.Need-mul-if6-3
 mul-if6-3 c = search needs
