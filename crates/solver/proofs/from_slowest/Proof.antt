@@ -1,31 +1,22 @@
+-- `solver::from_slowest` meets its contract.
+-- Assumes nothing.
 use Rattle.solver.proofs.Solving.{due-small, laid-wide, begun-good, crashed-proves}
 use borrow.Author.Needs.{needs}
 use Rattle.solver.proofs.from_slowest.Statement.{statement}
 use Rattle.solver.proofs.from_slowest.Tie as tie
-use Rattle.solver.proofs.from_slowest.Reads as reads
-use Rattle.solver.proofs.from_slowest.Lts as lts
-use Rattle.crashing.proofs.crash.Reads as crash-reads
-use Rattle.deciding.proofs.decide.Reads as decide-reads
-use Rattle.solver.proofs.no_loads.Reads as no-loads-reads
-use Rattle.solver.proofs.slowest_times.Reads as slowest-times-reads
 
--- src/lib.rt:366:20
 slowest-times-requires : tie.Need-slowest-times-requires
 slowest-times-requires c κs = search needs
 
--- src/lib.rt:367:17
 no-loads-requires : tie.Need-no-loads-requires
 no-loads-requires c κs = search needs
 
--- src/lib.rt:368:5
 crash-requires : tie.Need-crash-requires
 crash-requires c κs = (search (laid-wide), search (begun-good))
 
--- src/lib.rt:382:5
 decide-requires : tie.Need-decide-requires
 decide-requires c κs = search (due-small)
 
--- src/lib.rt:350:1
 returns : tie.Need-returns
 returns c = crashed-proves _ _ _ _ _ _ _ _ (c .before .before .before .before .before .before .before .before .before .pre) _ _ (c .before .before .before .before .before .before .before .before .slowest-times .ensures) (c .before .before .before .before .before .before .before .no-loads .ensures) _ _ (c .before .before .before .before .crash .ensures) _ _ (c .decide .ensures)
 
