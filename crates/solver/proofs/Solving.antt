@@ -1,33 +1,30 @@
 -- Loads that conserve and their first times are the budget held, with its reason; and loads from the main loop always have first times.
 -- Assumes nothing.
-use mathlib.Core.Path.{_≡_, refl, sym, ap, _∙_}
+use mathlib.Core.Path.{_≡_, refl}
 use mathlib.Core.Bool.{Bool, true, false, not}
 use mathlib.Core.List.{List}
-use Prim.Native.Nat.{ℕ, _+_, _≤_, _<_}
+use Prim.Native.Nat.{ℕ, _≤_}
 use native.Mathlib.Omega.{arith}
 use Rattle.theory.specs.Sum.{cells}
-use Rattle.theory.specs.Saving.{Suits}
-use Rattle.theory.specs.Graph.{Graph, Times, Flow, Lawful, Slack, Conserves}
+use Rattle.theory.specs.Graph.{Graph, Times, Flow, Lawful, Slack}
 use Rattle.theory.specs.Budget.{Held}
 use Rattle.theory.proofs.Alike.{Alike}
 use Rattle.board.specs.declared.Board.{Board}
-use Rattle.board.specs.Board.{WellFormed, view, usable}
+use Rattle.board.specs.Board.{view, usable}
 use Rattle.board.proofs.Lawful.{lawful}
 use Rattle.budget.specs.declared.Budget.{Budget}
-use Rattle.budget.specs.Budget.{Holds}
-use Rattle.budget.specs.Made.{timesIn, valueOf}
+use Rattle.budget.specs.Made.{valueOf}
 use Rattle.budget.proofs.BudgetLaws.{value-alike, value-holds}
 use Rattle.network.specs.Net.{Net, netOf}
-use Rattle.network.specs.Flow.{Sheet, World, First, Never, Decided}
+use Rattle.network.specs.Flow.{Sheet, World, First, Decided}
 use Rattle.network.specs.Sheet.{Says}
 use Rattle.network.proofs.Verdict.{crashed-first}
 use Rattle.network.specs.Crash.{Wide, Good, Crashed}
-use Rattle.wiring.specs.Wired.{Wired, NetworkOf, timesOf, flowOf}
+use Rattle.wiring.specs.Wired.{Wired, NetworkOf, timesOf}
 use Rattle.wiring.proofs.Bridge.{balanced-conserves}
 use Rattle.wiring.proofs.Nodes.{first-held, first-slack}
 use Rattle.wiring.proofs.Worlds.{board-world}
-use Rattle.solver.specs.declared.Solved.{Solved}
-use Rattle.solver.specs.Solve.{Solvable, Reason, Solves}
+use Rattle.solver.specs.Solve.{Solvable, Solves}
 use Rattle.times.specs.declared.Schedule.{Schedule}
 use Rattle.times.specs.Times.{slowestsOf, Timeable, TimesOf}
 use Rattle.times.proofs.TimesLaws.{slowest-timeable}

@@ -9,7 +9,7 @@ ghost use Rattle.budget.specs.Made.{valueOf};
 ghost use Rattle.network.specs.Net.{netOf};
 ghost use Rattle.wiring.specs.Wired.{timesOf};
 ghost use Rattle.solver.specs.Solve.{Solvable, Solves};
-ghost use Rattle.solver.specs.Steps.{noLoads, nodesFrom, Settled, Placing, Begun, Slowest, Proves, Accepts, Laid};
+ghost use Rattle.solver.specs.Steps.{noLoads, nodesFrom, Settled, Begun, Slowest, Proves, Accepts, Laid};
 
 // The budget, and the loads of parts, links, entries and exits that show why none is cheaper.
 pub struct Solved {
