@@ -4,14 +4,13 @@
 use mathlib.Core.Path.{_≡_, refl, sym, ap, _∙_}
 use mathlib.Core.Logic.{⊎-elim}
 use mathlib.Core.List.{List}
-use Prim.Native.Nat.{ℕ, _+_, _-_, _*_, _≤_, _<_}
+use Prim.Native.Nat.{ℕ, _+_, _-_, _≤_, _<_}
 use native.Mathlib.Omega.{arith}
 use lib.ListN.{length}
 use lib.Seq.{ext-getD}
 use Rattle.base.proofs.Cases.{lt-or-le}
-use Rattle.theory.specs.Sum.{sum, cells}
-use Rattle.theory.specs.Saving.{saves}
-use Rattle.theory.specs.Graph.{Times, total, Feasible}
+use Rattle.theory.specs.Sum.{cells}
+use Rattle.theory.specs.Graph.{Times, total}
 use Rattle.theory.specs.Budget.{Timed, Held}
 use Rattle.theory.specs.Budget as theory
 use Rattle.theory.proofs.SumLaws.{sum-ext, sum-le, sum-const}
@@ -20,16 +19,15 @@ use Rattle.theory.proofs.Alike.{Alike, alike-total, alike-held}
 use Rattle.theory.proofs.TimedLaws.{delays-budget, fastest-budget, budget-feasible}
 use Rattle.theory.proofs.Earliest.{held-once}
 use Rattle.theory.proofs.Existence.{held-is}
-use Rattle.curve.specs.declared.Curve.{Curve}
-use Rattle.curve.specs.Curve.{slowestOf, powerOf, ticksOf, savingOf}
-use Rattle.curve.proofs.CurveLaws.{power-to, power-used}
+use Rattle.curve.specs.Curve.{slowestOf, powerOf}
+use Rattle.curve.proofs.CurveLaws.{power-to}
 use Rattle.board.specs.declared.Board.{Board}
 use Rattle.board.specs.Board.{WellFormed, curveAt, view, usable}
 use Rattle.board.proofs.Lawful.{lawful}
 use Rattle.times.specs.Times.{firsts}
 use Rattle.times.proofs.TableLaws.{firsts-at, firsts-past, firsts-room}
 use Rattle.budget.specs.declared.Budget.{Budget}
-use Rattle.budget.specs.Budget.{Blank, Allowed, Holds}
+use Rattle.budget.specs.Budget.{Allowed, Holds}
 use Rattle.budget.specs.Made.{delaysOf, powersOf, totalOf, budgetOf, timesIn, valueOf}
 
 same-value : {r r′ : Budget} → r .start ≡ r′ .start → r .delay ≡ r′ .delay → r .end ≡ r′ .end → r .power ≡ r′ .power → r .total ≡ r′ .total →

@@ -1,13 +1,10 @@
 -- The ways through the making of a budget: delays, powers, total.
 -- Assumes nothing.
-use mathlib.Core.Path.{_≡_, refl, sym, ap, _∙_}
+use mathlib.Core.Path.{_≡_, refl, ap}
 use mathlib.Core.List.{List}
-use Prim.Native.Nat.{ℕ, zero, suc, _+_, _-_, _*_, _≤_, _<_}
+use Prim.Native.Nat.{ℕ, _+_, _-_, _*_, _≤_, _<_}
 use native.Mathlib.Omega.{arith}
-use native.Mathlib.Numerals.{add-one}
-use mir.Syntax.{w64, w32}
-use mir.Val.{Fits}
-use lib.ListN.{length, getD, set}
+use lib.ListN.{getD, set}
 use Rattle.base.proofs.Cases.{finished}
 use Rattle.theory.specs.Sum.{sum, cells}
 use Rattle.theory.proofs.SumLaws.{sum-next}
@@ -23,7 +20,6 @@ use Rattle.board.specs.declared.Board.{Board}
 use Rattle.board.specs.Board.{curveAt}
 use Rattle.times.specs.Times.{table, firsts}
 use Rattle.times.proofs.TableLaws.{firsts-none, firsts-more, firsts-done, firsts-at}
-use Rattle.budget.specs.declared.Budget.{Budget}
 use Rattle.budget.specs.Made.{OnCurve, Delays, Placed, Spans, delaysOf, powersOf, totalOf, budgetOf}
 
 -- ---- power_of

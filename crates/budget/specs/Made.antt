@@ -1,8 +1,7 @@
 -- The budget with given starts and ends, and its times as the mathematics has them.
 -- Assumes nothing.
-use mathlib.Core.Path.{_≡_}
 use mathlib.Core.List.{List}
-use Prim.Native.Nat.{ℕ, _+_, _-_, _≤_, _<_}
+use Prim.Native.Nat.{ℕ, _-_, _≤_, _<_}
 use Rattle.theory.specs.Sum.{sum, cells}
 use Rattle.theory.specs.Graph.{Times}
 use Rattle.curve.specs.declared.Curve.{Curve}

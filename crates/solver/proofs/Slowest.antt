@@ -6,13 +6,12 @@ use mathlib.Core.List.{List}
 use Prim.Native.Nat.{ℕ, zero, suc, _+_, _-_, _≤_, _<_}
 use native.Mathlib.Omega.{arith}
 use native.Mathlib.Decide.{ℕ-discrete}
-use lib.ListN.{getD, replicate}
+use lib.ListN.{replicate}
 use Rattle.base.proofs.Cases.{lt-or-le}
-use Rattle.theory.specs.Sum.{sum, share, into, cells}
+use Rattle.theory.specs.Sum.{share, into, cells}
 use Rattle.theory.proofs.SumLaws.{sum-ext, sum-zero, share-eq, share-ne}
-use Rattle.theory.specs.Graph.{Graph, Lawful}
 use Rattle.theory.proofs.ArriveLaws.{arrive-ge}
-use Rattle.curve.specs.Curve.{slowestOf, ticksOf}
+use Rattle.curve.specs.Curve.{slowestOf}
 use Rattle.board.specs.declared.Board.{Board}
 use Rattle.board.specs.Board.{WellFormed, view, usable, curveAt}
 use Rattle.board.proofs.Lawful.{lawful}
@@ -20,12 +19,12 @@ use Rattle.times.specs.declared.Schedule.{Schedule}
 use Rattle.times.specs.Times.{slowestsOf, Timeable, TimesOf}
 use Rattle.times.proofs.TimesLaws.{slowest-at, slowest-timeable, times-to}
 use Rattle.network.specs.Net.{Net}
-use Rattle.network.specs.Flow.{Fit, Balanced, Flows}
+use Rattle.network.specs.Flow.{Fit, Flows}
 use Rattle.network.specs.Crash.{Good}
 use Rattle.wiring.specs.Wired.{Wired, linkArc, entryArc, exitArc}
 use Rattle.wiring.proofs.Arcs.{each-arc}
 use Rattle.solver.specs.Solve.{Solvable}
-use Rattle.solver.specs.Steps.{noLoads, Placing, Begun}
+use Rattle.solver.specs.Steps.{noLoads, Begun}
 
 -- ---- no load
 zeros-at : (n a : ℕ) → cells (replicate n 0) a ≡ 0

@@ -1,37 +1,34 @@
 -- Loads that conserve and their first times are the budget held, with its reason; and loads from the main loop always have first times.
 -- Assumes nothing.
-use mathlib.Core.Path.{_≡_, refl, sym, ap, _∙_}
+use mathlib.Core.Path.{_≡_, refl}
 use mathlib.Core.Bool.{Bool, true, false, not}
 use mathlib.Core.List.{List}
-use Prim.Native.Nat.{ℕ, _+_, _≤_, _<_}
+use Prim.Native.Nat.{ℕ, _≤_}
 use native.Mathlib.Omega.{arith}
 use Rattle.theory.specs.Sum.{cells}
-use Rattle.theory.specs.Saving.{Suits}
-use Rattle.theory.specs.Graph.{Graph, Times, Flow, Lawful, Slack, Conserves}
+use Rattle.theory.specs.Graph.{Graph, Times, Flow, Lawful, Slack}
 use Rattle.theory.specs.Budget.{Held}
 use Rattle.theory.proofs.Alike.{Alike}
 use Rattle.board.specs.declared.Board.{Board}
-use Rattle.board.specs.Board.{WellFormed, view, usable}
+use Rattle.board.specs.Board.{view, usable}
 use Rattle.board.proofs.Lawful.{lawful}
 use Rattle.budget.specs.declared.Budget.{Budget}
-use Rattle.budget.specs.Budget.{Holds}
-use Rattle.budget.specs.Made.{timesIn, valueOf}
+use Rattle.budget.specs.Made.{valueOf}
 use Rattle.budget.proofs.BudgetLaws.{value-alike, value-holds}
 use Rattle.network.specs.Net.{Net, netOf}
-use Rattle.network.specs.Flow.{Sheet, World, First, Never, Decided}
+use Rattle.network.specs.Flow.{Sheet, World, First, Decided}
 use Rattle.network.specs.Sheet.{Says}
 use Rattle.network.proofs.Verdict.{crashed-first}
 use Rattle.network.specs.Crash.{Wide, Good, Crashed}
-use Rattle.wiring.specs.Wired.{Wired, NetworkOf, timesOf, flowOf}
+use Rattle.wiring.specs.Wired.{Wired, NetworkOf, timesOf}
 use Rattle.wiring.proofs.Bridge.{balanced-conserves}
 use Rattle.wiring.proofs.Nodes.{first-held, first-slack}
 use Rattle.wiring.proofs.Worlds.{board-world}
-use Rattle.solver.specs.declared.Solved.{Solved}
-use Rattle.solver.specs.Solve.{Solvable, Reason, Solves}
+use Rattle.solver.specs.Solve.{Solvable, Solves}
 use Rattle.times.specs.declared.Schedule.{Schedule}
 use Rattle.times.specs.Times.{slowestsOf, Timeable, TimesOf}
 use Rattle.times.proofs.TimesLaws.{slowest-timeable}
-use Rattle.solver.specs.Steps.{noLoads, Settled, Begun, Proves, Accepts, Laid}
+use Rattle.solver.specs.Steps.{noLoads, Settled, Begun, Slowest, Proves, Accepts, Laid}
 use Rattle.solver.proofs.Slowest.{slowest-good}
 
 -- times that agree are slack with the same loads
@@ -81,10 +78,6 @@ module _ (b : Board) (can : Solvable b) (arcs : ℕ) (tail head base lengths sav
   pub wide : Wide arcs tail head base lengths savings (usable b)
   wide = record { sound = n .sound; curved = n .curved; world = world }
 
-  module _ (t₀ x₀ t x : List ℕ) (c : Crashed N (usable b) t₀ x₀ t x) where
-    pub crashed-sheet : Sheet arcs (cells tail) (cells head) (cells x)
-    crashed-sheet = record { small = c .good .small; balanced = c .good .flows .balanced }
-
 -- ---- the ways through the code
 not-false : (q : Bool) → not q ≡ false → q ≡ true
 not-false true e = refl
@@ -121,23 +114,24 @@ module _ (b : Board) (arcs : ℕ) (tail head base lengths savings : List ℕ) (d
     pub taken-proves : (r : Bool) → Accepts M due x t r → r ≡ true → Proves M due x t
     taken-proves r a = a .taken
 
-  module _ (d : List ℕ) (is : d ≡ slowestsOf b) (s : Schedule) (timed : TimesOf b d s) (t₀ x₀ : List ℕ) (begun : Begun (s .start) (s .end) due t₀) (idle : x₀ ≡ noLoads) where
-    begun-usable : Begun (s .start) (s .end) (usable b) t₀
-    begun-usable = rw (ok .due-is) at begun
+  module _ (t₀ x₀ : List ℕ) (slow : Slowest b due t₀) (idle : x₀ ≡ noLoads) where
+    begun-usable : Begun (slow .schedule .start) (slow .schedule .end) (usable b) t₀
+    begun-usable = rw (ok .due-is) at (slow .begun)
 
     pub begun-good : Good M t₀ x₀
-    begun-good = slowest-good b (ok .can) M (ok .network .wired) d is s timed t₀ begun-usable x₀ idle
+    begun-good = slowest-good b (ok .can) M (ok .network .wired) (slowestsOf b) refl (slow .schedule) (slow .timed) t₀ begun-usable x₀ idle
 
     pub crashed-proves : (t x : List ℕ) → Crashed M due t₀ x₀ t x → (u : List ℕ) (r : Bool) → Decided M due (cells x) (cells u) r → Proves M due x u
     crashed-proves t x c u r v =
-        let c′ : Crashed M (usable b) t₀ x₀ t x = rw (ok .due-is) at c in
-        let v′ : Decided M (usable b) (cells x) (cells u) r = rw (ok .due-is) at v in
+        let w : World M due = rw (ok .due-is) (world b (ok .can) arcs tail head base lengths savings (ok .network)) in
         record {
-          sheet = crashed-sheet b (ok .can) arcs tail head base lengths savings (ok .network) t₀ x₀ t x c′;
-          first =
-              rw (ok .due-is)
-              (crashed-first M (usable b) (world b (ok .can) arcs tail head base lengths savings (ok .network)) t₀ x₀ t x c′ (begun-usable .placed .due-late) u r v′);
+          sheet = record { small = c .good .small; balanced = c .good .flows .balanced };
+          first = crashed-first M due w t₀ x₀ t x c (slow .begun .placed .due-late) u r v;
         }
 
 pub slowest-able : (b : Board) → Solvable b → (d : List ℕ) → d ≡ slowestsOf b → Timeable b d
 slowest-able b can = slowest-timeable b (can .formed) (can .ranked)
+
+pub slowest-begun : (b : Board) (due : ℕ) (d : List ℕ) → d ≡ slowestsOf b → (s : Schedule) → TimesOf b d s → (t : List ℕ) → Begun (s .start) (s .end) due t →
+    Slowest b due t
+slowest-begun b due d is s timed t begun = record { schedule = s; timed = rw is at timed; begun = begun }

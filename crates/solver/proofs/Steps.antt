@@ -1,8 +1,8 @@
 -- The ways through the steps between times of parts and times of nodes.
 -- Assumes nothing.
-use mathlib.Core.Path.{_≡_, refl, sym, ap, _∙_}
+use mathlib.Core.Path.{_≡_, refl, ap, _∙_}
 use mathlib.Core.List.{List}
-use Prim.Native.Nat.{ℕ, zero, suc, max, _+_, _-_, _≤_, _<_}
+use Prim.Native.Nat.{ℕ, max, _+_, _≤_, _<_}
 use native.Mathlib.Omega.{arith}
 use native.Mathlib.Decide.{ℕ-discrete}
 use lib.ListN.{length, getD, set, replicate, length-set}
@@ -11,14 +11,13 @@ use lib.Seq.{getD-set-same, getD-set-other}
 use Rattle.base.specs.Pick.{pick}
 use Rattle.base.proofs.Cases.{finished}
 use Rattle.theory.specs.Sum.{cells}
-use Rattle.theory.specs.Graph.{Times}
 use Rattle.curve.specs.Curve.{slowestOf}
 use Rattle.board.specs.declared.Board.{Board}
-use Rattle.board.specs.Board.{view, usable, curveAt}
+use Rattle.board.specs.Board.{view}
 use Rattle.times.specs.Times.{table, firsts}
 use Rattle.times.proofs.TableLaws.{table-ext, firsts-none, firsts-more, firsts-at}
 use Rattle.budget.specs.declared.Budget.{Budget}
-use Rattle.budget.specs.Made.{Placed, OnCurve, budgetOf, valueOf}
+use Rattle.budget.specs.Made.{Placed, budgetOf, valueOf}
 use Rattle.wiring.specs.Wired.{timesOf}
 use Rattle.solver.specs.Steps.{nodesFrom, Settled, Placing, Begun}
 

@@ -2,7 +2,6 @@
 -- The idea (documents 000 and 003): loads that conserve, and times that are slack with them, prove the times cheapest; the first times that are slack
 -- with them are the budget held. The subtle point: there may be many such flows, and no statement says which one is given.
 -- Assumes nothing.
-use mathlib.Core.Path.{_≡_}
 use mathlib.Core.List.{List}
 use Prim.Native.Nat.{ℕ, _+_, _≤_, _<_}
 use Rattle.theory.specs.Sum.{cells}

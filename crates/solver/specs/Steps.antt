@@ -9,8 +9,9 @@ use Rattle.theory.specs.Sum.{cells}
 use Rattle.theory.specs.Budget.{Budget}
 use Rattle.board.specs.declared.Board.{Board}
 use Rattle.board.specs.Board.{WellFormed, view, usable}
-use Rattle.times.specs.Times.{firsts}
-use Rattle.network.specs.Net.{Net, netOf, Sound, Curved}
+use Rattle.times.specs.declared.Schedule.{Schedule}
+use Rattle.times.specs.Times.{firsts, slowestsOf, TimesOf}
+use Rattle.network.specs.Net.{Net}
 use Rattle.network.specs.Flow.{Sheet, First}
 use Rattle.wiring.specs.Wired.{NetworkOf, timesOf}
 use Rattle.solver.specs.Solve.{Solvable}
@@ -41,6 +42,12 @@ pub record Placing (start end : List ℕ) (due k : ℕ) (t : List ℕ) (most : �
 pub record Begun (start end : List ℕ) (due : ℕ) (t : List ℕ) : Type 0 where
   pub placed : Placing start end due 64 t (cells t 129)
   pub source : cells t 128 ≡ 0
+
+-- those of all parts at their slowest
+pub record Slowest (b : Board) (due : ℕ) (t : List ℕ) : Type 0 where
+  pub schedule : Schedule
+  pub timed : TimesOf b (slowestsOf b) schedule
+  pub begun : Begun (schedule .start) (schedule .end) due t
 
 -- ---- loads
 -- the loads are a sheet, and t has the first times that fit them: together they prove the times to be the budget held

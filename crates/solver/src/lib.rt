@@ -9,7 +9,7 @@ ghost use Rattle.budget.specs.Made.{valueOf};
 ghost use Rattle.network.specs.Net.{netOf};
 ghost use Rattle.wiring.specs.Wired.{timesOf};
 ghost use Rattle.solver.specs.Solve.{Solvable, Solves};
-ghost use Rattle.solver.specs.Steps.{noLoads, nodesFrom, Settled, Placing, Begun, Proves, Accepts, Laid};
+ghost use Rattle.solver.specs.Steps.{noLoads, nodesFrom, Settled, Begun, Slowest, Proves, Accepts, Laid};
 
 // The budget, and the loads of parts, links, entries and exits that show why none is cheaper.
 pub struct Solved {
@@ -77,6 +77,20 @@ fn begin(start: [u32; 64], end: [u32; 64], due: u32, t: &mut [u32; 130])
     }
     t[128] = 0;
     t[129] = most;
+}
+
+// All parts at their slowest, at their nodes.
+fn slowest_times(b: Board, due: u32) -> [u32; 130]
+    requires { ⌜ Solvable b ⌝ }
+    ensures { λ r. ⌜ Slowest b due r ⌝ }
+{
+    let d = times::slowest_delays(b);
+    let s = times::times_of(b, d);
+    let start = s.start;
+    let end = s.end;
+    let mut t = [0u32; 130];
+    begin(start, end, due, &mut t);
+    t
 }
 
 // ---- lists of the arcs at each node, and an order of arcs, which make for quick work. Any will do, so nothing is said of them.
@@ -349,12 +363,7 @@ fn from_slowest(
     requires { ⌜ Laid b arcs (now tail) (now head) (now base) (now lengths) (now savings) due ⌝ }
     ensures { λ r. ⌜ Proves (netOf arcs (now (tail .entry)) (now (head .entry)) (now (base .entry)) (now (lengths .entry)) (now (savings .entry))) due (r .loads) (r .times) ⌝ }
 {
-    let d = times::slowest_delays(b);
-    let s = times::times_of(b, d);
-    let start = s.start;
-    let end = s.end;
-    let mut late = [0u32; 130];
-    begin(start, end, due, &mut late);
+    let mut late = slowest_times(b, due);
     let mut x = no_loads();
     crashing::crash(
         arcs,

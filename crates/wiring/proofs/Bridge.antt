@@ -7,9 +7,9 @@ use native.Mathlib.Omega.{arith}
 use native.Mathlib.Decide.{decLt, ℕ-discrete}
 use Rattle.theory.specs.Sum.{sum, share, into}
 use Rattle.theory.proofs.SumLaws.{sum-ext, sum-zero, sum-split, sum-share, share-eq, share-ne}
-use Rattle.theory.specs.Graph.{Graph, Times, Flow, Lawful, Feasible, Slack, Conserves, value}
+use Rattle.theory.specs.Graph.{Graph, Lawful, Feasible, Slack, Conserves, value}
 use Rattle.network.specs.Net.{Net}
-use Rattle.network.specs.Flow.{Fit, Balanced, ins, outs}
+use Rattle.network.specs.Flow.{Fit, Balanced}
 use Rattle.wiring.specs.Wired.{Wired, linkArc, entryArc, exitArc, timesOf, flowOf}
 
 -- ---- sums over a block of arcs whose ends are e: none at node v, one, or those of another numbering

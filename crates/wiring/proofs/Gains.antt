@@ -1,22 +1,18 @@
 -- What the arcs of a board save: a part what its curve saves, another arc nothing.
 -- Assumes nothing.
-use mathlib.Core.Path.{_≡_, refl, sym, ap, _∙_}
+use mathlib.Core.Path.{_≡_, refl, ap, _∙_}
 use mathlib.Core.Logic.{⊎-elim}
-use mathlib.Core.Bool.{cond}
 use mathlib.Core.List.{List}
 use Prim.Native.Nat.{ℕ, zero, suc, _+_, _-_, _*_, _/_, _%_, _≤_, _<_}
 use native.Mathlib.Omega.{arith}
-use native.Mathlib.Decide.{ℕ-discrete, decLt}
 use lib.ListN.{length, List·getD-eq-default, getD-replicate}
-use lib.Dec.{ltb}
-use borrow.Author.Tests.{lt-ltb, le-ltb}
 use Rattle.base.proofs.Cases.{lt-or-le}
-use Rattle.theory.specs.Sum.{sum, cells}
-use Rattle.theory.specs.Saving.{tick, before}
+use Rattle.theory.specs.Sum.{sum}
+use Rattle.theory.specs.Saving.{tick}
 use Rattle.theory.proofs.SumLaws.{sum-ext, sum-zero, sum-split}
 use Rattle.curve.specs.declared.Run.{Run}
 use Rattle.curve.specs.declared.Curve.{Curve}
-use Rattle.curve.specs.Curve.{Good, noRun, runAt, lengthAt, savingAt, ticksOf, slowestOf, savingOf}
+use Rattle.curve.specs.Curve.{Good, noRun, lengthAt, savingAt, ticksOf, slowestOf, savingOf}
 use Rattle.curve.proofs.CurveLaws.{slowest-to}
 use Rattle.board.specs.declared.Board.{Board}
 use Rattle.board.specs.Board.{WellFormed, view, curveAt, blankCurve}

@@ -2,17 +2,17 @@
 -- no times fit, none are slack.
 -- Assumes nothing.
 use mathlib.Core.Path.{_≡_, refl, ap, _∙_}
-use mathlib.Core.Bool.{cond}
+use mathlib.Core.Bool.{Bool, true, false, cond}
 use Prim.Native.Nat.{ℕ, _+_, _-_, _≤_, _<_}
 use native.Mathlib.Omega.{arith}
 use native.Mathlib.Decide.{decLt}
 use lib.Dec.{ltb}
 use borrow.Author.Tests.{lt-ltb, le-ltb}
-use Rattle.theory.specs.Graph.{Graph, Times, Flow, Lawful, Feasible, Slack, Conserves}
+use Rattle.theory.specs.Graph.{Graph, Times, Lawful, Feasible, Slack}
 use Rattle.theory.specs.Budget.{NoLater, Held}
 use Rattle.theory.proofs.Earliest.{earliest-held}
 use Rattle.network.specs.Net.{Net}
-use Rattle.network.specs.Flow.{Fit, Balanced, First, Never}
+use Rattle.network.specs.Flow.{Fit, Balanced, First, Never, Decided}
 use Rattle.wiring.specs.Wired.{Wired, linkArc, entryArc, exitArc, timesOf, flowOf}
 use Rattle.wiring.proofs.Arcs.{each-arc}
 use Rattle.wiring.proofs.Bridge.{fits-feasible, fits-slack, balanced-conserves}
@@ -120,6 +120,11 @@ module _ (G : Graph) (o : Lawful G) (N : Net) (w : Wired G N) (due : ℕ) (x : �
   pub never-slack : Never N due x → (τ : Times) → Feasible G due τ → Slack G due τ (flowOf G x) → ⊥
   never-slack n τ f k =
       n .none (nodes τ due) (slack-fits G o N w x f k) (nodes-source τ due) (nodes-sink τ due) (nodes-most G o N w x f k)
+
+  -- so the verdict is yes wherever some times that keep the deadline are slack with the loads
+  pub slack-yes : (t : ℕ → ℕ) (r : Bool) → Decided N due x t r → (τ : Times) → Feasible G due τ → Slack G due τ (flowOf G x) → r ≡ true
+  slack-yes t true v τ f k = refl
+  slack-yes t false v τ f k = absurd (never-slack (v .no refl) τ f k)
 
   -- the first times that fit are feasible and slack, and with loads that balance they are the budget held
   module _ (t : ℕ → ℕ) (r : First N due x t) where

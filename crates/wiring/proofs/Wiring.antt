@@ -1,16 +1,16 @@
 -- The four blocks and the runs, once laid, are the board's network.
 -- Assumes nothing.
-use mathlib.Core.Path.{_≡_, refl, sym, ap, _∙_}
+use mathlib.Core.Path.{_≡_, sym, ap, _∙_}
 use mathlib.Core.List.{List}
-use Prim.Native.Nat.{ℕ, _+_, _≤_, _<_}
+use Prim.Native.Nat.{ℕ, _+_, _<_}
 use native.Mathlib.Omega.{arith}
 use mir.Syntax.{w64}
 use mir.Val.{Fits}
 use Rattle.theory.specs.Sum.{cells}
 use Rattle.board.specs.declared.Board.{Board}
-use Rattle.board.specs.Board.{WellFormed, view, curveAt}
-use Rattle.network.specs.Net.{netOf, Sound, Bends, Curved}
-use Rattle.wiring.specs.Wired.{Wired, NetworkOf, linkArc, entryArc, exitArc}
+use Rattle.board.specs.Board.{WellFormed, view}
+use Rattle.network.specs.Net.{netOf, Bends}
+use Rattle.wiring.specs.Wired.{Wired, NetworkOf}
 use Rattle.wiring.specs.Laid.{Laid, RunsLaid}
 use Rattle.wiring.proofs.Arcs.{each-arc}
 use Rattle.wiring.proofs.Gains.{part-saves, flat-saves, part-bends, flat-bends}

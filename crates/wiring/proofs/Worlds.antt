@@ -1,12 +1,11 @@
 -- A board's network is a world: what the main loop takes for granted holds of it.
 -- Assumes nothing.
-use mathlib.Core.Path.{_≡_, ap, _∙_}
-use Prim.Native.Nat.{ℕ, zero, suc, _+_, _*_, _-_, _≤_, _<_}
+use mathlib.Core.Path.{ap}
+use Prim.Native.Nat.{ℕ, _+_, _≤_, _<_}
 use native.Mathlib.Omega.{arith}
 use native.Mathlib.Decide.{decLt}
-use Rattle.theory.specs.Sum.{sum}
 use Rattle.theory.proofs.SumLaws.{sum-le, sum-const}
-use Rattle.theory.specs.Graph.{Graph, Times, Flow, Lawful, Feasible, Slack, Conserves, value}
+use Rattle.theory.specs.Graph.{Graph, Times, Lawful, Feasible, Slack, Conserves, value}
 use Rattle.theory.specs.Budget.{Timed}
 use Rattle.theory.proofs.ValueBounds.{tops, value-tops, part-value, link-value}
 use Rattle.theory.proofs.TimedLaws.{fastest-budget, budget-feasible}
@@ -14,8 +13,8 @@ use Rattle.curve.proofs.CurveLaws.{saving-to}
 use Rattle.board.specs.declared.Board.{Board}
 use Rattle.board.specs.Board.{WellFormed, view, curveAt, usable}
 use Rattle.network.specs.Net.{Net}
-use Rattle.network.specs.Flow.{Flows, Lowers, World, ins}
-use Rattle.wiring.specs.Wired.{Wired, linkArc, entryArc, exitArc, timesOf, flowOf}
+use Rattle.network.specs.Flow.{Flows, Lowers, World}
+use Rattle.wiring.specs.Wired.{Wired, entryArc, timesOf, flowOf}
 use Rattle.wiring.proofs.Arcs.{each-arc}
 use Rattle.wiring.proofs.Bridge.{fits-feasible, fits-slack, balanced-conserves, sink-in}
 use Rattle.board.proofs.Lawful.{lawful}

@@ -1,8 +1,7 @@
 // A board's network: its parts, links, entries and exits as arcs in arrays that the solver lends.
 use board::Board;
-ghost use mathlib.Core.Path.{_≡_};
-ghost use Prim.Native.Nat.{_+_, _≤_, _<_};
-ghost use Rattle.board.specs.Board.{WellFormed, view, curveAt};
+ghost use Prim.Native.Nat.{_+_, _<_};
+ghost use Rattle.board.specs.Board.{WellFormed, view};
 ghost use Rattle.wiring.specs.Wired.{NetworkOf};
 ghost use Rattle.wiring.specs.Laid.{Put, Laid, RunsLaid};
 

@@ -1,52 +1,26 @@
-use Rattle.solver.proofs.Solving.{due-small, laid-wide, begun-good, crashed-proves, slowest-able}
+-- `solver::from_slowest` meets its contract.
+-- Assumes nothing.
+use Rattle.solver.proofs.Solving.{due-small, laid-wide, begun-good, crashed-proves}
 use borrow.Author.Needs.{needs}
 use Rattle.solver.proofs.from_slowest.Statement.{statement}
 use Rattle.solver.proofs.from_slowest.Tie as tie
-use Rattle.solver.proofs.from_slowest.Reads as reads
-use Rattle.solver.proofs.from_slowest.Lts as lts
-use Rattle.crashing.proofs.crash.Reads as crash-reads
-use Rattle.deciding.proofs.decide.Reads as decide-reads
-use Rattle.solver.proofs.begin.Reads as begin-reads
-use Rattle.solver.proofs.no_loads.Reads as no-loads-reads
-use Rattle.times.proofs.slowest_delays.Reads as slowest-delays-reads
-use Rattle.times.proofs.times_of.Reads as times-of-reads
 
--- src/lib.rt:352:9
-slowest-delays-requires : tie.Need-slowest-delays-requires
-slowest-delays-requires c κs = search needs
+slowest-times-requires : tie.Need-slowest-times-requires
+slowest-times-requires c κs = search needs
 
--- src/lib.rt:353:9
-times-of-requires : tie.Need-times-of-requires
-times-of-requires c κs = search (slowest-able)
-
--- src/lib.rt:357:5
-begin-requires : tie.Need-begin-requires
-begin-requires c κs = search needs
-
--- src/lib.rt:358:17
 no-loads-requires : tie.Need-no-loads-requires
 no-loads-requires c κs = search needs
 
--- src/lib.rt:359:5
 crash-requires : tie.Need-crash-requires
 crash-requires c κs = (search (laid-wide), search (begun-good))
 
--- src/lib.rt:373:5
 decide-requires : tie.Need-decide-requires
 decide-requires c κs = search (due-small)
 
--- src/lib.rt:336:1
 returns : tie.Need-returns
-returns c = crashed-proves _ _ _ _ _ _ _ _ (c .before .before .before .before .before .before .before .before .before .before .before .before .before .pre) _ (c .before .before .before .before .before .before .before .before .before .before .before .before .slowest-delays .ensures) _ (c .before .before .before .before .before .before .before .before .before .before .before .times-of .ensures) _ _ (c .before .before .before .before .before .before .before .begin .ensures) (c .before .before .before .before .before .before .no-loads .ensures) _ _ (c .before .before .before .crash .ensures) _ _ (c .decide .ensures)
+returns c = crashed-proves _ _ _ _ _ _ _ _ (c .before .before .before .before .before .before .before .before .before .pre) _ _ (c .before .before .before .before .before .before .before .before .slowest-times .ensures) (c .before .before .before .before .before .before .before .no-loads .ensures) _ _ (c .before .before .before .before .crash .ensures) _ _ (c .decide .ensures)
 
 pub from-slowest-spec : {M : Type 1} → statement M
 from-slowest-spec =
     tie.close
-    (tie.spec
-    slowest-delays-requires
-    times-of-requires
-    begin-requires
-    no-loads-requires
-    crash-requires
-    decide-requires
-    returns)
+    (tie.spec slowest-times-requires no-loads-requires crash-requires decide-requires returns)

@@ -1,0 +1,22 @@
+-- `solver::slowest_times` meets its contract.
+-- Assumes nothing.
+use Rattle.solver.proofs.Solving.{slowest-able, slowest-begun}
+use borrow.Author.Needs.{needs}
+use Rattle.solver.proofs.slowest_times.Statement.{statement}
+use Rattle.solver.proofs.slowest_times.Tie as tie
+
+slowest-delays-requires : tie.Need-slowest-delays-requires
+slowest-delays-requires c κs = search needs
+
+times-of-requires : tie.Need-times-of-requires
+times-of-requires c κs = search (slowest-able)
+
+begin-requires : tie.Need-begin-requires
+begin-requires c κs = search needs
+
+returns : tie.Need-returns
+returns c = search (slowest-begun)
+
+pub slowest-times-spec : {M : Type 1} → statement M
+slowest-times-spec =
+    tie.close (tie.spec slowest-delays-requires times-of-requires begin-requires returns)
