@@ -159,7 +159,7 @@ impl Curve {
         }
     }
 
-    // The slowest delay: the fastest plus all run lengths.
+    // The slowest delay: the fastest plus all run lengths. Of a curve that is not good the sum may pass its type.
     pub fn slowest(self) -> Ticks
         requires { ⌜ Good self ⌝ }
         ensures { λ r. ⌜ r .0 ≡ slowestOf self ⌝ }
@@ -175,7 +175,7 @@ impl Curve {
         Ticks(delay)
     }
 
-    // All savings together.
+    // All savings together. The runs are in range; whether the power is enough need not be known yet.
     pub fn savings(self) -> Microwatts
         requires { ⌜ Sized self ⌝ }
         ensures { λ r. ⌜ r .0 ≡ savingsOf self ⌝ }
@@ -266,6 +266,7 @@ impl Curve {
         run.saving.0 < before.saving.0
     }
 
+    // Whether all four places are.
     fn places_are_good(self) -> bool
         ensures { λ r. ⌜ r ≡ every 4 (placeb self) ⌝ }
     {

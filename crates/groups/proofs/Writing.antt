@@ -90,3 +90,11 @@ module _ (buf : List ℕ) (at n k : ℕ) (is : k ≡ length (encode n)) where
     pub wrote : (buf′ : List ℕ) → buf′ ≡ sets buf at (encode n) → buf′ ≡ written buf at n
     unfolding written fits pick
     wrote buf′ new = rw (le-leb _ _ has-room) new
+
+-- ---- what a caller knows of the next place: it is within the buffer where the place was
+pub next-le : (buf : List ℕ) (at n : ℕ) → at ≤ length buf → writtenTo buf at n ≤ length buf
+unfolding writtenTo fits pick
+next-le buf at n within = ⊎-elim
+    (λ (none : length buf < at + length (encode n)). rw (lt-leb _ _ none) within)
+    (λ (room : at + length (encode n) ≤ length buf). rw (le-leb _ _ room) room)
+    (lt-or-le (length buf) (at + length (encode n)))

@@ -80,10 +80,10 @@ pub fn size(n: u32) -> usize
     if LIMIT <= n {
         return 0;
     }
-    let mut rest = n;
+    let mut above = n;
     let mut count: usize = 0;
-    while 128 <= rest {
-        rest = rest / 128;
+    while 128 <= above {
+        above = above / 128;
         count = count + 1;
     }
     count + 1
@@ -112,12 +112,12 @@ fn put(buf: &mut [u8], at: usize, n: u32) -> usize
     ensures { λ r. ⌜ (r ≡ at + length (encode n)) × (now (buf .exit) ≡ sets (now (buf .entry)) at (encode n)) ⌝ }
 {
     let mut rest = n;
-    let mut i = at;
+    let mut next = at;
     while 128 <= rest {
-        buf[i] = (rest % 128 + 128) as u8;
+        buf[next] = (rest % 128 + 128) as u8;
         rest = rest / 128;
-        i = i + 1;
+        next = next + 1;
     }
-    buf[i] = rest as u8;
-    i + 1
+    buf[next] = rest as u8;
+    next + 1
 }

@@ -13,56 +13,56 @@ use Rattle.groups.proofs.put.Reads as reads
 use Rattle.groups.proofs.put.Lts as lts
 
 abbrev Inv-loop : tie.InvT-loop
-Inv-loop buf₀ at n rest₀ i₀ buf rest i = (sets buf i (encode rest) ≡ sets buf₀ at (encode n)) × (i + length (encode rest) ≡ at + length (encode n)) × (rest < limit) × (length buf ≡ length buf₀)
+Inv-loop buf₀ at n rest₀ next₀ buf rest next = (sets buf next (encode rest) ≡ sets buf₀ at (encode n)) × (next + length (encode rest) ≡ at + length (encode n)) × (rest < limit) × (length buf ≡ length buf₀)
 
 abbrev μ-loop : tie.MeasureT-loop
-μ-loop buf₀ at n rest₀ i₀ buf rest i = rest
+μ-loop buf₀ at n rest₀ next₀ buf rest next = rest
 
--- src/lib.rt:115:5
+-- src/lib.rt:116:5
 loop-holds : tie.Need-loop-holds Inv-loop μ-loop
 loop-holds c = search needs
 
--- src/lib.rt:116:19
+-- src/lib.rt:117:22
 add-buf : tie.Need-add-buf Inv-loop μ-loop
 add-buf c = search needs
 
--- src/lib.rt:116:18
+-- src/lib.rt:117:21
 cast-buf : tie.Need-cast-buf Inv-loop μ-loop
 cast-buf c = search needs
 
--- src/lib.rt:116:9
+-- src/lib.rt:117:9
 slice-write-buf : tie.Need-slice-write-buf Inv-loop μ-loop
 slice-write-buf c = search room
 
--- src/lib.rt:118:13
-add-i : tie.Need-add-i Inv-loop μ-loop
-add-i c = search needs
+-- src/lib.rt:119:16
+add-next : tie.Need-add-next Inv-loop μ-loop
+add-next c = search needs
 
--- src/lib.rt:115:5
+-- src/lib.rt:116:5
 loop-less : tie.Need-loop-less Inv-loop μ-loop
 loop-less c = search needs
 
--- src/lib.rt:115:5
+-- src/lib.rt:116:5
 loop-again : tie.Need-loop-again Inv-loop μ-loop
 loop-again c = (search wrote-more, search ends-more, search rest-below, search long-still)
 
--- src/lib.rt:120:14
+-- src/lib.rt:121:17
 cast-buf-2 : tie.Need-cast-buf-2 Inv-loop μ-loop
 cast-buf-2 c = search needs
 
--- src/lib.rt:120:5
+-- src/lib.rt:121:5
 slice-write-buf-2 : tie.Need-slice-write-buf-2 Inv-loop μ-loop
 slice-write-buf-2 c = search room
 
--- src/lib.rt:121:5
+-- src/lib.rt:122:5
 add-result : tie.Need-add-result Inv-loop μ-loop
 add-result c = search needs
 
--- src/lib.rt:109:1
+-- src/lib.rt:110:1
 same-length : tie.Need-same-length Inv-loop μ-loop
 same-length c = search long-still
 
--- src/lib.rt:109:1
+-- src/lib.rt:110:1
 returns : tie.Need-returns Inv-loop μ-loop
 returns c = search (ends-last, wrote-last)
 
@@ -76,7 +76,7 @@ put-spec =
     add-buf
     cast-buf
     slice-write-buf
-    add-i
+    add-next
     loop-less
     loop-again
     cast-buf-2

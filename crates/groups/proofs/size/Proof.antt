@@ -1,3 +1,4 @@
+use native.Mathlib.Omega.{arith}
 use mathlib.Core.Path.{_≡_, refl}
 use Prim.Native.Nat.{_<_, _+_}
 use lib.ListN.{length}
@@ -10,36 +11,36 @@ use Rattle.groups.proofs.size.Reads as reads
 use Rattle.groups.proofs.size.Lts as lts
 
 abbrev Inv-loop : tie.InvT-loop
-Inv-loop n rest₀ count₀ rest count = (count + length (encode rest) ≡ length (encode n)) × (rest < limit)
+Inv-loop n above₀ count₀ above count = (count + length (encode above) ≡ length (encode n)) × (above < limit)
 
 abbrev μ-loop : tie.MeasureT-loop
-μ-loop n rest₀ count₀ rest count = rest
+μ-loop n above₀ count₀ above count = above
 
--- src/lib.rt:80:9
+-- src/lib.rt:81:9
 returns : tie.Need-returns Inv-loop μ-loop
-returns c = search no-form
+returns c = no-form _ (omega arith)
 
--- src/lib.rt:84:5
+-- src/lib.rt:85:5
 loop-holds : tie.Need-loop-holds Inv-loop μ-loop
 loop-holds c = search needs
 
--- src/lib.rt:86:17
+-- src/lib.rt:87:17
 add-count : tie.Need-add-count Inv-loop μ-loop
 add-count c = search count-fits
 
--- src/lib.rt:84:5
+-- src/lib.rt:85:5
 loop-less : tie.Need-loop-less Inv-loop μ-loop
 loop-less c = search needs
 
--- src/lib.rt:84:5
+-- src/lib.rt:85:5
 loop-again : tie.Need-loop-again Inv-loop μ-loop
 loop-again c = (search counted-more, search rest-below)
 
--- src/lib.rt:88:5
+-- src/lib.rt:89:5
 add-result : tie.Need-add-result Inv-loop μ-loop
 add-result c = search count-fits
 
--- src/lib.rt:76:1
+-- src/lib.rt:77:1
 returns-2 : tie.Need-returns-2 Inv-loop μ-loop
 returns-2 c = search counted
 

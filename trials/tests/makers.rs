@@ -1,0 +1,110 @@
+//! That the makers make what they say: each family, every size, and every
+//! refusal often enough to be tried.
+
+use std::collections::{BTreeMap, BTreeSet};
+use trials::file::{read_design, read_order};
+use trials::make::{self, boards::*};
+use trials::report;
+use trials::rng::Rng;
+
+/// How often each number was met; 0 is acceptance.
+type Counts = BTreeMap<u32, usize>;
+
+fn assert_met(counts: &Counts, numbers: &[u32], least: usize) {
+    for number in numbers {
+        let met = counts.get(number).copied().unwrap_or(0);
+        assert!(met >= least, "{number} was met {met} times: {counts:?}");
+    }
+}
+
+#[test]
+fn every_family_is_well_formed() {
+    let rng = &mut Rng::new(10);
+    for shape in SHAPES {
+        for curves in CURVES {
+            for haste in HASTES {
+                for parts in [1, 2, 3, 17, 63, 64] {
+                    let board = sized_board(parts, shape, curves, haste, rng);
+                    assert!(board.is_well_formed(), "{shape:?} {curves:?} {haste:?} {board:?}");
+                    let looped = board.lowest_part_on_a_loop().is_some();
+                    assert_eq!(looped, shape == Shape::Looped && parts > 1);
+                }
+            }
+        }
+    }
+}
+
+#[test]
+fn every_family_has_boards_in_time_and_too_slow() {
+    let rng = &mut Rng::new(11);
+    for shape in &SHAPES[..8] {
+        for curves in CURVES {
+            let in_time = |haste, rng: &mut Rng| {
+                (0..40)
+                    .filter(|_| board_of(*shape, curves, haste, rng).check_loops_and_times().is_ok())
+                    .count()
+            };
+            assert!(in_time(Haste::Tightest, rng) >= 20, "{shape:?} {curves:?}");
+            assert!(in_time(Haste::Between, rng) >= 20, "{shape:?} {curves:?}");
+            assert!(in_time(Haste::TooTight, rng) < 40, "{shape:?} {curves:?}");
+        }
+    }
+}
+
+#[test]
+fn boards_of_every_size_with_links_both_ways() {
+    let rng = &mut Rng::new(12);
+    let made: Vec<_> = (0..3_000).map(|_| board(rng)).collect();
+    let sizes: BTreeSet<usize> = made.iter().map(|board| board.parts()).collect();
+    assert_eq!(sizes, (1..=64).collect());
+    assert!(made.iter().any(|board| board.links.len() == 256));
+    assert!(made.iter().any(|board| board.links.iter().any(|(from, to)| from > to)));
+    let mut counts = Counts::new();
+    for board in &made {
+        *counts
+            .entry(board.check_loops_and_times().err().map_or(0, |refusal| refusal.number))
+            .or_default() += 1;
+    }
+    assert_met(&counts, &[9, 10], 60);
+    assert_met(&counts, &[0], 2_100);
+}
+
+#[test]
+fn files_meet_every_refusal_of_reading() {
+    let mut counts = Counts::new();
+    for file in make::files(10_000, &mut Rng::new(13)) {
+        assert!(file.len() <= 2_048);
+        *counts.entry(read_design(&file).err().map_or(0, |refusal| refusal.number)).or_default() += 1;
+    }
+    assert_met(&counts, &[0, 1, 2, 3, 4, 5, 6, 7, 8], 100);
+}
+
+#[test]
+fn orders_meet_every_refusal_of_reading() {
+    let (mut counts, mut kinds) = (Counts::new(), Counts::new());
+    for bytes in make::orders(20_000, &mut Rng::new(14)) {
+        match read_order(&bytes) {
+            Ok((order, _)) => *kinds.entry(order.kind()).or_default() += 1,
+            Err(refusal) => *counts.entry(refusal.number).or_default() += 1,
+        }
+    }
+    assert_met(&counts, &[1, 2, 4, 12], 200);
+    assert_met(&counts, &[5, 6], 20);
+    assert_met(&kinds, &[1, 2, 3, 4], 1_000);
+}
+
+/// Read from the printed lines, as a comparison would see them.
+#[test]
+fn sessions_meet_every_refusal_of_orders() {
+    let records = make::sessions(300, &mut Rng::new(15));
+    let records: Vec<&[u8]> = records.iter().map(Vec::as_slice).collect();
+    let mut counts = Counts::new();
+    for line in report::sessions(&records).lines().filter(|line| line.starts_with("order ")) {
+        let words: Vec<&str> = line.split(' ').collect();
+        assert_eq!(words[6], "no");
+        *counts.entry(words[7].parse().unwrap()).or_default() += 1;
+    }
+    assert_met(&counts, &[0], 2_000);
+    assert_met(&counts, &[7, 9, 10, 11, 13, 14, 15, 17], 10);
+    assert_met(&counts, &[2, 4, 12], 5);
+}
