@@ -1,5 +1,11 @@
 // The board by value: a deadline, parts with their curves, and links in ascending order of from, then to.
+ghost use mathlib.Core.Path.{_≡_};
+ghost use Prim.Native.Nat.{_<_};
+ghost use Rattle.curve.specs.Tests.{both};
+ghost use Rattle.board.specs.Board.{blankCurve, WellFormed};
+ghost use Rattle.board.specs.Tests.{Decides, blankCurves, blankLinks, emptyOf, belowOf, linkBlank, linkHeld, linkTest, linksTest, curveBlank, curveTest, curvesTest};
 use curve::Curve;
+use curve::Microwatts;
 use curve::Ticks;
 
 pub struct Link {
@@ -14,4 +20,192 @@ pub struct Board {
     pub curve: [Curve; 64],
     pub links: usize,
     pub link: [Link; 256],
+}
+
+// What a place without a part holds.
+pub fn blank_curve() -> Curve
+    ensures { λ r. ⌜ r ≡ blankCurve ⌝ }
+{
+    Curve::flat(Ticks(0), Microwatts(0))
+}
+
+// All places without a part.
+fn blank_curves() -> [Curve; 64]
+    ensures { λ r. ⌜ r ≡ blankCurves ⌝ }
+{
+    let blank = blank_curve();
+    [blank; 64]
+}
+
+// All places without a link.
+fn blank_links() -> [Link; 256]
+    ensures { λ r. ⌜ r ≡ blankLinks ⌝ }
+{
+    [Link { from: 0, to: 0 }; 256]
+}
+
+// A board to be filled: no links, and a blank curve at every part.
+pub fn empty(deadline: Ticks, parts: usize) -> Board
+    ensures { λ r. ⌜ r ≡ emptyOf deadline parts ⌝ }
+{
+    let curve = blank_curves();
+    let link = blank_links();
+    Board {
+        deadline: deadline,
+        parts: parts,
+        curve: curve,
+        links: 0,
+        link: link,
+    }
+}
+
+// 1 where link a stands before link x in the order of from, then to; else 0.
+pub fn below(a: Link, x: Link) -> usize
+    ensures { λ r. ⌜ r ≡ belowOf a x ⌝ }
+{
+    if a.from < x.from {
+        return 1;
+    }
+    if x.from < a.from {
+        return 0;
+    }
+    if a.to < x.to {
+        return 1;
+    }
+    0
+}
+
+// Two tests at once.
+fn both_hold(one: bool, other: bool) -> bool
+    ensures { λ r. ⌜ r ≡ both one other ⌝ }
+{
+    if one {
+        return other;
+    }
+    false
+}
+
+fn link_blank(l: Link) -> bool
+    ensures { λ r. ⌜ r ≡ linkBlank l ⌝ }
+{
+    if 0 < l.from {
+        return false;
+    }
+    l.to == 0
+}
+
+// Whether link l of the board joins two of its parts and stands above the one before it.
+fn link_held(b: Board, l: usize) -> bool
+    requires { ⌜ l < 256 ⌝ }
+    ensures { λ r. ⌜ r ≡ linkHeld b l ⌝ }
+{
+    let x = b.link[l];
+    if b.parts <= x.from {
+        return false;
+    }
+    if b.parts <= x.to {
+        return false;
+    }
+    if x.from == x.to {
+        return false;
+    }
+    if l == 0 {
+        return true;
+    }
+    let before = b.link[l - 1];
+    below(before, x) == 1
+}
+
+// Whether place l of the links holds what it should.
+fn link_good(b: Board, l: usize) -> bool
+    requires { ⌜ l < 256 ⌝ }
+    ensures { λ r. ⌜ r ≡ linkTest b l ⌝ }
+{
+    if l < b.links {
+        return link_held(b, l);
+    }
+    let x = b.link[l];
+    link_blank(x)
+}
+
+// Whether every place of the links does.
+fn links_good(b: Board) -> bool
+    ensures { λ r. ⌜ r ≡ linksTest b ⌝ }
+{
+    let mut good = true;
+    let mut l: usize = 0;
+    while l < 256 {
+        good = both_hold(good, link_good(b, l));
+        l = l + 1;
+    }
+    good
+}
+
+// Whether this is what a place without a part holds. With no runs, a curve of a fastest delay is good exactly when all its places are blank.
+fn curve_blank(c: Curve) -> bool
+    ensures { λ r. ⌜ r ≡ curveBlank c ⌝ }
+{
+    if 0 < c.fastest.0 {
+        return false;
+    }
+    if 0 < c.power.0 {
+        return false;
+    }
+    if 0 < c.count {
+        return false;
+    }
+    let tick = Ticks(1);
+    let mut flat = c;
+    flat.fastest = tick;
+    flat.is_good()
+}
+
+// Whether place p of the curves holds what it should.
+fn curve_good(b: Board, p: usize) -> bool
+    requires { ⌜ p < 64 ⌝ }
+    ensures { λ r. ⌜ r ≡ curveTest b p ⌝ }
+{
+    let c = b.curve[p];
+    if p < b.parts {
+        return c.is_good();
+    }
+    curve_blank(c)
+}
+
+// Whether every place of the curves does.
+fn curves_good(b: Board) -> bool
+    ensures { λ r. ⌜ r ≡ curvesTest b ⌝ }
+{
+    let mut good = true;
+    let mut p: usize = 0;
+    while p < 64 {
+        good = both_hold(good, curve_good(b, p));
+        p = p + 1;
+    }
+    good
+}
+
+// Whether this is a board as 01 asks it to be, but for loops.
+pub fn well_formed(b: Board) -> bool
+    ensures { λ r. ⌜ Decides r (WellFormed b) ⌝ }
+{
+    if b.deadline.0 < 1 {
+        return false;
+    }
+    if 4095 < b.deadline.0 {
+        return false;
+    }
+    if b.parts < 1 {
+        return false;
+    }
+    if 64 < b.parts {
+        return false;
+    }
+    if 256 < b.links {
+        return false;
+    }
+    if !curves_good(b) {
+        return false;
+    }
+    links_good(b)
 }

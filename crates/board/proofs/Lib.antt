@@ -1,0 +1,6 @@
+pub mod Steps
+pub mod Ascending
+pub mod LinkLaws
+pub mod TestLaws
+pub mod SameBoard
+pub mod Lawful

@@ -1,0 +1,152 @@
+-- Two edits at different places end in the same board, in whatever order they are made. Edits of links end in the same links, so `same-board` has
+-- it; all others touch different fields.
+-- Assumes nothing.
+use mathlib.Core.Path.{_≡_, refl, sym, ap, _∙_}
+use mathlib.Core.Logic.{⊎-elim, _≢_}
+use mathlib.Core.Bool.{Bool, true, false}
+use mathlib.Core.List.{List}
+use Prim.Native.Nat.{ℕ, _+_, _<_}
+use lib.Dec.{ltb}
+use lib.ListN.{getD, set}
+use lib.Seq.{set-comm}
+use Rattle.base.specs.Pick.{pick}
+use Rattle.curve.specs.declared.Ticks.{Ticks}
+use Rattle.curve.specs.declared.Curve.{Curve}
+use Rattle.board.specs.declared.Board.{Board}
+use Rattle.board.specs.Board.{WellFormed, Linked, curveAt, noCurve}
+use Rattle.board.proofs.SameBoard.{Alike, same-board}
+use Rattle.edits.specs.Edits.{linkOf, countBefore, placeOf, hasLinkOf, addable, withDeadlineOf, withCurveOf, withLinkOf, withoutLinkOf}
+use Rattle.edits.specs.Changes.{Ends, Addable, LinksOnly, LinkAdded, LinkRemoved}
+use Rattle.edits.proofs.LinkEdits.{with-link-well, with-link-added, without-link-well, without-link-removed}
+
+-- ---- two links
+-- two boards that keep all but the links of a third are alike where their links are
+alike : (b c d : Board) → LinksOnly b c → LinksOnly b d → ((p q : ℕ) → Linked c p q → Linked d p q) → ((p q : ℕ) → Linked d p q → Linked c p q) → Alike c d
+alike b c d u v to from = record {
+  deadline = u .deadline ∙ sym (v .deadline);
+  parts = u .parts ∙ sym (v .parts);
+  curves = λ p h. ap (λ (l : List Curve). getD l p noCurve) (u .curve ∙ sym (v .curve));
+  links = to;
+  links-back = from;
+}
+
+onward : (b c d : Board) → LinksOnly b c → LinksOnly c d → LinksOnly b d
+onward b c d u v = record { deadline = v .deadline ∙ u .deadline; parts = v .parts ∙ u .parts; curve = v .curve ∙ u .curve }
+
+-- a link that is there under other numbers
+moved : (b : Board) (p q from to : ℕ) → Ends p q from to → Linked b from to → Linked b p q
+moved b p q from to e k = record { link = k .link; here = k .here; from = k .from ∙ sym (e .starts); to = k .to ∙ sym (e .ends) }
+
+-- what is in one of two is in the other
+two-added : (b c c′ d d′ : Board) (f t g u : ℕ) → LinkAdded b c f t → LinkAdded c d g u → LinkAdded b c′ g u → LinkAdded c′ d′ f t
+    → (p q : ℕ) → Linked d p q → Linked d′ p q
+two-added b c c′ d d′ f t g u bc cd bc′ cd′ p q k = ⊎-elim
+    (λ (h : Linked c p q). ⊎-elim
+    (λ (l : Linked b p q). cd′ .kept p q (bc′ .kept p q l))
+    (λ (e : Ends p q f t). moved d′ p q f t e (cd′ .new))
+    (bc .only p q h))
+    (λ (e : Ends p q g u). cd′ .kept p q (moved c′ p q g u e (bc′ .new)))
+    (cd .only p q k)
+
+module _ (b : Board) (w : WellFormed b) (f t g u : ℕ) where
+  pub add-add : Addable b f t → Addable (withLinkOf b f t) g u → Addable b g u → Addable (withLinkOf b g u) f t
+      → withLinkOf (withLinkOf b f t) g u ≡ withLinkOf (withLinkOf b g u) f t
+  add-add a a₂ c c₂ =
+      let wa = with-link-well b w f t a in
+      let wc = with-link-well b w g u c in
+      let la = with-link-added b w f t a in
+      let lc = with-link-added b w g u c in
+      let la₂ = with-link-added (withLinkOf b f t) wa g u a₂ in
+      let lc₂ = with-link-added (withLinkOf b g u) wc f t c₂ in
+      same-board _ _ (with-link-well (withLinkOf b f t) wa g u a₂) (with-link-well (withLinkOf b g u) wc f t c₂)
+      (alike b _ _ (onward b _ _ (la .rest) (la₂ .rest)) (onward b _ _ (lc .rest) (lc₂ .rest)) (two-added b _ _ _ _ f t g u la la₂ lc lc₂) (two-added b _ _ _ _ g u f t lc lc₂ la la₂))
+
+-- one added, one removed
+mixed : (b c c′ d d′ : Board) (f t g u : ℕ) → LinkAdded b c f t → LinkRemoved c d g u → LinkRemoved b c′ g u → LinkAdded c′ d′ f t
+    → (p q : ℕ) → Linked d p q → Linked d′ p q
+mixed b c c′ d d′ f t g u bc cd bc′ cd′ p q k = ⊎-elim
+    (λ (l : Linked b p q). cd′ .kept p q (bc′ .kept p q l (λ e. cd .gone (moved d g u p q (record { starts = sym (e .starts); ends = sym (e .ends) }) k))))
+    (λ (e : Ends p q f t). moved d′ p q f t e (cd′ .new))
+    (bc .only p q (cd .only p q k))
+
+mixed-back : (b c c′ d d′ : Board) (f t g u : ℕ) → (Ends f t g u → ⊥) → LinkAdded b c f t → LinkRemoved c d g u → LinkRemoved b c′ g u → LinkAdded c′ d′ f t
+    → (p q : ℕ) → Linked d′ p q → Linked d p q
+mixed-back b c c′ d d′ f t g u ne bc cd bc′ cd′ p q k = ⊎-elim
+    (λ (l : Linked c′ p q).
+    cd .kept p q (bc .kept p q (bc′ .only p q l)) (λ e. bc′ .gone (moved c′ g u p q (record { starts = sym (e .starts); ends = sym (e .ends) }) l)))
+    (λ (e : Ends p q f t). moved d p q f t e (cd .kept f t (bc .new) ne))
+    (cd′ .only p q k)
+
+module _ (b : Board) (w : WellFormed b) (f t g u : ℕ) where
+  pub add-remove : Addable b f t → Linked (withLinkOf b f t) g u → Linked b g u → Addable (withoutLinkOf b g u) f t
+      → withoutLinkOf (withLinkOf b f t) g u ≡ withLinkOf (withoutLinkOf b g u) f t
+  add-remove a r there c =
+      let wa = with-link-well b w f t a in
+      let wr = without-link-well b w g u there in
+      let la = with-link-added b w f t a in
+      let lr = without-link-removed b w g u there in
+      let la₂ = without-link-removed (withLinkOf b f t) wa g u r in
+      let lr₂ = with-link-added (withoutLinkOf b g u) wr f t c in
+      same-board _ _ (without-link-well (withLinkOf b f t) wa g u r) (with-link-well (withoutLinkOf b g u) wr f t c)
+      (alike b _ _ (onward b _ _ (la .rest) (la₂ .rest)) (onward b _ _ (lr .rest) (lr₂ .rest)) (mixed b _ _ _ _ f t g u la la₂ lr lr₂)
+      (mixed-back b _ _ _ _ f t g u (λ e. a .missing (moved b f t g u e there)) la la₂ lr lr₂))
+
+-- both removed
+two-removed : (b c c′ d d′ : Board) (f t g u : ℕ) → LinkRemoved b c f t → LinkRemoved c d g u → LinkRemoved b c′ g u → LinkRemoved c′ d′ f t
+    → (p q : ℕ) → Linked d p q → Linked d′ p q
+two-removed b c c′ d d′ f t g u bc cd bc′ cd′ p q k =
+    let l = cd .only p q k in
+    cd′ .kept p q
+    (bc′ .kept p q (bc .only p q l) (λ e. cd .gone (moved d g u p q (record { starts = sym (e .starts); ends = sym (e .ends) }) k)))
+    (λ e. bc .gone (moved c f t p q (record { starts = sym (e .starts); ends = sym (e .ends) }) l))
+
+module _ (b : Board) (w : WellFormed b) (f t g u : ℕ) where
+  pub remove-remove : Linked b f t → Linked (withoutLinkOf b f t) g u → Linked b g u → Linked (withoutLinkOf b g u) f t
+      → withoutLinkOf (withoutLinkOf b f t) g u ≡ withoutLinkOf (withoutLinkOf b g u) f t
+  remove-remove a a₂ c c₂ =
+      let wa = without-link-well b w f t a in
+      let wc = without-link-well b w g u c in
+      let la = without-link-removed b w f t a in
+      let lc = without-link-removed b w g u c in
+      let la₂ = without-link-removed (withoutLinkOf b f t) wa g u a₂ in
+      let lc₂ = without-link-removed (withoutLinkOf b g u) wc f t c₂ in
+      same-board _ _ (without-link-well (withoutLinkOf b f t) wa g u a₂) (without-link-well (withoutLinkOf b g u) wc f t c₂)
+      (alike b _ _ (onward b _ _ (la .rest) (la₂ .rest)) (onward b _ _ (lc .rest) (lc₂ .rest)) (two-removed b _ _ _ _ f t g u la la₂ lc lc₂) (two-removed b _ _ _ _ g u f t lc lc₂ la la₂))
+
+-- ---- other fields: of any board
+module _ (b : Board) (d : Ticks) where
+  pub deadline-curve : (p : ℕ) (c : Curve) → withCurveOf (withDeadlineOf b d) p c ≡ withDeadlineOf (withCurveOf b p c) d
+  unfolding withCurveOf withDeadlineOf
+  deadline-curve p c = refl
+
+  pub deadline-add : (f t : ℕ) → withLinkOf (withDeadlineOf b d) f t ≡ withDeadlineOf (withLinkOf b f t) d
+  unfolding withLinkOf withDeadlineOf addable hasLinkOf placeOf countBefore
+  deadline-add f t = refl
+
+  pub deadline-remove : (f t : ℕ) → withoutLinkOf (withDeadlineOf b d) f t ≡ withDeadlineOf (withoutLinkOf b f t) d
+  unfolding withoutLinkOf withDeadlineOf hasLinkOf placeOf countBefore
+  deadline-remove f t = refl
+
+module _ (b : Board) (p : ℕ) (c : Curve) where
+  pub curve-add : (f t : ℕ) → withLinkOf (withCurveOf b p c) f t ≡ withCurveOf (withLinkOf b f t) p c
+  unfolding withLinkOf withCurveOf addable hasLinkOf placeOf countBefore
+  curve-add f t = refl
+
+  pub curve-remove : (f t : ℕ) → withoutLinkOf (withCurveOf b p c) f t ≡ withCurveOf (withoutLinkOf b f t) p c
+  unfolding withoutLinkOf withCurveOf hasLinkOf placeOf countBefore
+  curve-remove f t = refl
+
+-- two curves of different parts
+sets-differ : (l : List Curve) (p q : ℕ) (c e : Curve) → p ≢ q → (s t : Bool)
+    → pick t (set (pick s (set l p c) l) q e) (pick s (set l p c) l) ≡ pick s (set (pick t (set l q e) l) p c) (pick t (set l q e) l)
+unfolding pick
+sets-differ l p q c e ne true true = set-comm l p q c e ne
+sets-differ l p q c e ne true false = refl
+sets-differ l p q c e ne false true = refl
+sets-differ l p q c e ne false false = refl
+
+pub curve-curve : (b : Board) (p q : ℕ) (c e : Curve) → p ≢ q → withCurveOf (withCurveOf b p c) q e ≡ withCurveOf (withCurveOf b q e) p c
+unfolding withCurveOf
+curve-curve b p q c e ne =
+    ap (λ (l : List Curve). record { deadline = b .deadline; parts = b .parts; curve = l; links = b .links; link = b .link })
+    (sets-differ (b .curve) p q c e ne (ltb p (b .parts)) (ltb q (b .parts)))

@@ -1,0 +1,6 @@
+pub mod Ways
+pub mod Places
+pub mod LinkEdits
+pub mod PlainEdits
+pub mod Filling
+pub mod Commute
