@@ -1,0 +1,15 @@
+use Rattle.times.specs.Times.{table}
+use mathlib.Core.Path.{refl}
+use borrow.Author.Needs.{needs}
+use Rattle.slow.proofs.all.Statement.{statement}
+use Rattle.slow.proofs.all.Tie as tie
+use Rattle.slow.proofs.all.Reads as reads
+use Rattle.slow.proofs.all.Lts as lts
+
+-- src/lib.rt:45:1
+returns : tie.Need-returns
+unfolding table
+returns c = refl
+
+pub all-spec : {M : Type 1} → statement M
+all-spec = tie.close (tie.spec returns)

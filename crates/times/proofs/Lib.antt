@@ -1,0 +1,5 @@
+pub mod TableLaws
+pub mod Loops
+pub mod Rounds
+pub mod Lawful
+pub mod TimesLaws
