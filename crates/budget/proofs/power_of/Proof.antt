@@ -1,0 +1,30 @@
+use Rattle.budget.proofs.Making.{power-there, power-not-refused}
+use borrow.Author.Needs.{needs}
+use Rattle.budget.proofs.power_of.Statement.{statement}
+use Rattle.budget.proofs.power_of.Tie as tie
+use Rattle.budget.proofs.power_of.Reads as reads
+use Rattle.budget.proofs.power_of.Lts as lts
+use Rattle.curve.proofs.Curve.power_at.Reads as power-at-reads
+
+-- src/lib.rt:34:9
+power-at-requires : tie.Need-power-at-requires
+power-at-requires c κs = search needs
+
+-- src/lib.rt:36:19
+enum-known-power : tie.Need-enum-known-power
+enum-known-power c = search needs
+
+-- src/lib.rt:37:48
+enum-told : tie.Need-enum-told
+enum-told c = search needs
+
+-- src/lib.rt:30:1
+returns : tie.Need-returns
+returns c = search (power-there, power-not-refused)
+
+-- src/lib.rt:30:1
+returns-2 : tie.Need-returns-2
+returns-2 c = search (power-there, power-not-refused)
+
+pub power-of-spec : {M : Type 1} → statement M
+power-of-spec = tie.close (tie.spec power-at-requires enum-known-power enum-told returns returns-2)

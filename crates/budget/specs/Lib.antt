@@ -1,0 +1,2 @@
+pub mod Budget
+pub mod Made
