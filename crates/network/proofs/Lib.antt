@@ -1,4 +1,0 @@
-pub mod Places
-pub mod Pricing
-pub mod Sheets
-pub mod Fitting
