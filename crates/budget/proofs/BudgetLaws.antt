@@ -174,9 +174,9 @@ module _ (b : Board) (ok : WellFormed b) where
       let k = a .blank in
       let k′ = a′ .blank in
       let delay : (p : ℕ) → p < b .parts → cells (r .delay) p ≡ cells (r′ .delay) p =
-          λ p h. omega (arith, same .used-eq p h, a .fastest p h, a′ .fastest p h) in
+      λ p h. omega (arith, same .used-eq p h, a .fastest p h, a′ .fastest p h) in
       let power : (p : ℕ) → p < b .parts → cells (r .power) p ≡ cells (r′ .power) p =
-          λ p h. a .powers p h ∙ ap (powerOf (curveAt b p)) (delay p h) ∙ sym (a′ .powers p h) in
+      λ p h. a .powers p h ∙ ap (powerOf (curveAt b p)) (delay p h) ∙ sym (a′ .powers p h) in
       same-value
       (same-places (r .start) (r′ .start) (k .start-room) (k′ .start-room) (same .start-eq) (k .start-blank) (k′ .start-blank))
       (same-places (r .delay) (r′ .delay) (k .delay-room) (k′ .delay-room) delay (k .delay-blank) (k′ .delay-blank))
