@@ -1,17 +1,19 @@
 -- A curve as bytes: "fastest, power, run count, and length then saving for each run". It stands so in a design file and in an order.
 -- Assumes nothing.
-use Prim.Native.Nat.{ℕ, zero, suc, _-_}
+use Prim.Native.Nat.{ℕ, _-_}
 use mathlib.Core.Bool.{Bool, true}
-use mathlib.Core.List.{List, [], _++_}
+use mathlib.Core.List.{List, _++_}
 use lib.Dec.{ltb, leb, eqb}
 use lib.ListN.{set, replicate}
 use Rattle.base.specs.Pick.{pick}
 use Rattle.refusal.specs.declared.Why.the-variants.{SavingNotBelow, PowerBelowSavings}
 use Rattle.refusal.specs.declared.Answer.the-variants.{Done, Refused}
+use Rattle.curve.specs.declared.Run.{Run}
 use Rattle.curve.specs.declared.Curve.{Curve}
 use Rattle.fields.specs.declared.CurveRead.{CurveRead}
-use Rattle.curve.specs.Curve.{noRun, lengthAt, savingAt, savingsOf}
+use Rattle.curve.specs.Curve.{noRun, runAt, savingAt, savingsOf}
 use Rattle.groups.specs.Number.{encode}
+use Rattle.fields.specs.Writing.{inRow}
 use Rattle.fields.specs.Parse.{Parse, got, stop, and-then, repeat, fieldAt}
 
 -- a curve before its runs are read
@@ -62,10 +64,12 @@ curveRead (got c next) = record { answer = Done; next = next; curve = c }
 curveRead (stop why place) = record { answer = Refused why place; next = 0; curve = bare 0 0 0 }
 
 -- ---- the bytes of a curve
+abbrev pub runBytes : Run → List ℕ
+runBytes run = encode (run .length .0) ++ encode (run .saving .0)
+
 -- the first k runs
 unfoldable pub runsBytes : Curve → ℕ → List ℕ
-runsBytes c zero = []
-runsBytes c (suc k) = runsBytes c k ++ (encode (lengthAt c k) ++ encode (savingAt c k))
+runsBytes c k = inRow (λ i. runBytes (runAt c i)) k
 
 unfoldable pub curveBytes : Curve → List ℕ
 curveBytes c = encode (c .fastest .0) ++ (encode (c .power .0) ++ (encode (c .count) ++ runsBytes c (c .count)))

@@ -16,7 +16,7 @@ pub data Parse (A : Type 0) : Type 0 where
   stop : Why → ℕ → Parse A
 
 -- read on past a value; a fault stays
-abbrev pub and-then : {A B : Type 0} → Parse A → (A → ℕ → Parse B) → Parse B
+unfoldable pub and-then : {A B : Type 0} → Parse A → (A → ℕ → Parse B) → Parse B
 and-then (got a next) f = f a next
 and-then (stop why place) f = stop why place
 

@@ -7,9 +7,13 @@ use groups::Read;
 use refusal::Answer;
 use refusal::Why;
 ghost use mathlib.Core.Path.{_≡_};
-ghost use Prim.Native.Nat.{_≤_, _<_};
+ghost use Prim.Native.Nat.{_≤_, _<_, _+_};
+ghost use lib.ListN.{length};
+ghost use Rattle.curve.specs.Curve.{Good};
+ghost use Rattle.groups.specs.Number.{encode};
 ghost use Rattle.fields.specs.Parse.{number, rangedAt, fieldAt, stop, repeat};
-ghost use Rattle.fields.specs.CurveFile.{bare, falls, runFrom, runsFrom, curveFrom, curveRead};
+ghost use Rattle.fields.specs.CurveFile.{bare, falls, runFrom, runsFrom, curveFrom, curveRead, runBytes, runsBytes, curveBytes};
+ghost use Rattle.fields.specs.Writing.{Wrote};
 
 // A curve and the place past it, or the first fault.
 pub struct CurveRead {
@@ -142,4 +146,118 @@ fn each_run(s: &[u8], c: Curve, at: usize) -> CurveRead
         next,
         curve: so_far,
     }
+}
+
+// Run count and runs of a curve whose power, read at `from`, must be enough for all savings.
+fn read_runs(s: &[u8], fastest: u32, power: u32, from: usize, at: usize) -> CurveRead
+    ensures { λ r. ⌜ r ≡ curveRead (runsFrom (now (s .entry)) fastest power from at) ⌝ }
+{
+    match field(s, at, 0, 4) {
+        Read::Refused { why, place } => refused(why, place),
+        Read::Number { value: count, next } => {
+            let r = each_run(s, bare_curve(fastest, power, count as usize), next);
+            let a = r.answer;
+            let Answer::Done = a else {
+                return r;
+            };
+            let c = r.curve;
+            let saved = c.savings();
+            if power < saved.0 {
+                return refused(Why::PowerBelowSavings, from);
+            }
+            r
+        }
+    }
+}
+
+// The curve that stands at a place; any place may be asked for.
+pub fn read_curve(s: &[u8], at: usize) -> CurveRead
+    ensures { λ r. ⌜ r ≡ curveRead (curveFrom (now (s .entry)) at) ⌝ }
+{
+    match field(s, at, Curve::FASTEST_MIN, Curve::FASTEST_MAX) {
+        Read::Refused { why, place } => refused(why, place),
+        Read::Number {
+            value: fastest,
+            next: power_at,
+        } => match field(s, power_at, 0, Curve::POWER_MAX) {
+            Read::Refused { why, place } => refused(why, place),
+            Read::Number { value: power, next } => { read_runs(s, fastest, power, power_at, next) }
+        },
+    }
+}
+
+// Writes a number where there is room for it, and hands back the place past it.
+pub fn put(buf: &mut [u8], at: usize, n: u32) -> usize
+    requires { ⌜ at + length (encode n) ≤ length (now buf) ⌝ }
+    ensures { λ r. ⌜ Wrote (now (buf .entry)) at (encode n) r (now (buf .exit)) ⌝ }
+{
+    groups::write_number(buf, at, n)
+}
+
+// The bytes of a number's form.
+pub fn size(n: u32) -> usize
+    ensures { λ r. ⌜ (r ≡ length (encode n)) × (r ≤ 3) ⌝ }
+{
+    groups::size(n)
+}
+
+fn run_size(run: Run) -> usize
+    ensures { λ r. ⌜ (r ≡ length (runBytes run)) × (r ≤ 6) ⌝ }
+{
+    size(run.length.0) + size(run.saving.0)
+}
+
+fn runs_size(c: Curve) -> usize
+    requires { ⌜ Good c ⌝ }
+    ensures { λ r. ⌜ (r ≡ length (runsBytes c (c .count))) × (r ≤ 24) ⌝ }
+{
+    let count = c.count;
+    let mut bytes: usize = 0;
+    let mut i: usize = 0;
+    while i < count {
+        bytes = bytes + run_size(c.runs[i]);
+        i = i + 1;
+    }
+    bytes
+}
+
+// The bytes that a curve takes.
+pub fn curve_size(c: Curve) -> usize
+    requires { ⌜ Good c ⌝ }
+    ensures { λ r. ⌜ r ≡ length (curveBytes c) ⌝ }
+{
+    size(c.fastest.0) + size(c.power.0) + size(c.count as u32) + runs_size(c)
+}
+
+fn write_run(buf: &mut [u8], at: usize, run: Run) -> usize
+    requires { ⌜ at + length (runBytes run) ≤ length (now buf) ⌝ }
+    ensures { λ r. ⌜ Wrote (now (buf .entry)) at (runBytes run) r (now (buf .exit)) ⌝ }
+{
+    let next = put(buf, at, run.length.0);
+    put(buf, next, run.saving.0)
+}
+
+fn write_runs(buf: &mut [u8], at: usize, c: Curve) -> usize
+    requires { ⌜ (Good c) × (at + length (runsBytes c (c .count)) ≤ length (now buf)) ⌝ }
+    ensures { λ r. ⌜ Wrote (now (buf .entry)) at (runsBytes c (c .count)) r (now (buf .exit)) ⌝ }
+{
+    let count = c.count;
+    let mut next = at;
+    let mut i: usize = 0;
+    while i < count {
+        next = write_run(buf, next, c.runs[i]);
+        i = i + 1;
+    }
+    next
+}
+
+// Writes a curve where there is room for it, and hands back the place past it.
+pub fn write_curve(buf: &mut [u8], at: usize, c: Curve) -> usize
+    requires { ⌜ (Good c) × (at + length (curveBytes c) ≤ length (now buf)) ⌝ }
+    ensures { λ r. ⌜ Wrote (now (buf .entry)) at (curveBytes c) r (now (buf .exit)) ⌝ }
+{
+    let power_at = put(buf, at, c.fastest.0);
+    let count_at = put(buf, power_at, c.power.0);
+    let runs_at = put(buf, count_at, c.count as u32);
+    write_runs(buf, runs_at, c)
 }

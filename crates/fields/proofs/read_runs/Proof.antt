@@ -1,0 +1,90 @@
+use Rattle.fields.proofs.Ways.{runs-no-count, runs-few, runs-stopped, runs-can-be-summed, runs-too-dear, runs-afforded}
+use borrow.Author.Needs.{needs}
+use Rattle.fields.proofs.read_runs.Statement.{statement}
+use Rattle.fields.proofs.read_runs.Tie as tie
+use Rattle.fields.proofs.read_runs.Reads as reads
+use Rattle.fields.proofs.read_runs.Lts as lts
+use Rattle.curve.proofs.Curve.savings.Reads as savings-reads
+use Rattle.fields.proofs.bare_curve.Reads as bare-curve-reads
+use Rattle.fields.proofs.each_run.Reads as each-run-reads
+use Rattle.fields.proofs.field.Reads as field-reads
+use Rattle.fields.proofs.refused.Reads as refused-reads
+
+-- src/lib.rt:155:11
+field-requires : tie.Need-field-requires
+field-requires c κs = search needs
+
+-- src/lib.rt:156:25
+enum-known-why : tie.Need-enum-known-why
+enum-known-why c = search needs
+
+-- src/lib.rt:156:41
+refused-requires : tie.Need-refused-requires
+refused-requires c κs = search needs
+
+-- src/lib.rt:157:31
+enum-known-count : tie.Need-enum-known-count
+enum-known-count c = search needs
+
+-- src/lib.rt:158:60
+cast-bare-curve : tie.Need-cast-bare-curve
+cast-bare-curve c = search needs
+
+-- src/lib.rt:158:33
+bare-curve-requires : tie.Need-bare-curve-requires
+bare-curve-requires c κs = search needs
+
+-- src/lib.rt:158:17
+each-run-requires : tie.Need-each-run-requires
+each-run-requires c κs = search (runs-few)
+
+enum-told : tie.Need-enum-told
+enum-told c = search needs
+
+-- src/lib.rt:161:17
+enum-told-2 : tie.Need-enum-told-2
+enum-told-2 c = search needs
+
+-- src/lib.rt:161:17
+returns : tie.Need-returns
+returns c = search (runs-no-count, runs-stopped, runs-too-dear, runs-afforded)
+
+-- src/lib.rt:164:17
+savings-requires : tie.Need-savings-requires
+savings-requires c κs = search (runs-can-be-summed)
+
+-- src/lib.rt:166:17
+refused-requires-2 : tie.Need-refused-requires-2
+refused-requires-2 c κs = search needs
+
+-- src/lib.rt:166:17
+returns-2 : tie.Need-returns-2
+returns-2 c = search (runs-no-count, runs-stopped, runs-too-dear, runs-afforded)
+
+-- src/lib.rt:152:1
+returns-3 : tie.Need-returns-3
+returns-3 c = search (runs-no-count, runs-stopped, runs-too-dear, runs-afforded)
+
+-- src/lib.rt:152:1
+returns-4 : tie.Need-returns-4
+returns-4 c = search (runs-no-count, runs-stopped, runs-too-dear, runs-afforded)
+
+pub read-runs-spec : {M : Type 1} → statement M
+read-runs-spec =
+    tie.close
+    (tie.spec
+    field-requires
+    enum-known-why
+    refused-requires
+    enum-known-count
+    cast-bare-curve
+    bare-curve-requires
+    each-run-requires
+    enum-told
+    enum-told-2
+    returns
+    savings-requires
+    refused-requires-2
+    returns-2
+    returns-3
+    returns-4)
