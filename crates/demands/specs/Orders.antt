@@ -8,7 +8,8 @@ use Prim.Native.Nat.{ℕ, _≤_}
 use Rattle.refusal.specs.declared.Answer.the-variants.{Done}
 use Rattle.curve.specs.declared.Curve.{Curve}
 use Rattle.board.specs.declared.Board.{Board}
-use Rattle.board.specs.Board.{curveAt, usable}
+use Rattle.board.specs.Board.{curveAt}
+use Rattle.edits.specs.Changes.{DeadlineChanged, LinkAdded, LinkRemoved, CurveChanged}
 use Rattle.fields.specs.Parse.{got}
 use Rattle.orders.specs.declared.Change.{Change}
 use Rattle.orders.specs.declared.Change.the-variants.{Deadline, AddLink, RemoveLink, NewCurve}
@@ -34,6 +35,16 @@ placeOf (NewCurve part) = the-curve part
 -- "Two orders at different places"
 abbrev pub Apart : Order → Order → Type 0
 Apart o o′ = placeOf (o .change) ≢ placeOf (o′ .change)
+
+-- "exactly its one place changes": what the board b is to b′ after the order
+abbrev pub changeSeen : Board → Board → Change → Curve → Type 0
+changeSeen b b′ (Deadline d) c = DeadlineChanged b b′ d
+changeSeen b b′ (AddLink from to) c = LinkAdded b b′ from to
+changeSeen b b′ (RemoveLink from to) c = LinkRemoved b b′ from to
+changeSeen b b′ (NewCurve part) c = CurveChanged b b′ part c
+
+abbrev pub ChangesOnly : Board → Board → Order → Type 0
+ChangesOnly b b′ o = changeSeen b b′ (o .change) (o .curve)
 
 -- "An order tightens if it adds a link, does not raise the deadline, or replaces a curve by one whose fastest delay is no less."
 abbrev pub changeTightens : Board → Change → Curve → Type 0
