@@ -1,3 +1,4 @@
 pub mod VerdictLaws
 pub mod Tried
 pub mod Once
+pub mod ReachedLaws
