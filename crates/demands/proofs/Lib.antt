@@ -2,3 +2,5 @@ pub mod VerdictLaws
 pub mod Tried
 pub mod Once
 pub mod ReachedLaws
+pub mod Steps
+pub mod Commute
