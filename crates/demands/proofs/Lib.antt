@@ -4,3 +4,4 @@ pub mod Once
 pub mod ReachedLaws
 pub mod Steps
 pub mod Commute
+pub mod Tighten
