@@ -1,46 +1,61 @@
 -- 01, Files: "A design file: version 1; deadline; part count; for each part fastest, power, run count, and length then saving for each run;
--- link count; for each link from and to. Nothing follows."
+-- link count; for each link from and to. Nothing follows." It is read in this order, and `and-then` has the first fault win; loops and slow
+-- paths (9 and 10) are found after all of it.
 -- Assumes nothing.
-use Prim.Native.Nat.{ℕ, zero, suc, _+_, _-_}
+use Prim.Native.Nat.{ℕ, _-_}
 use mathlib.Core.Bool.{Bool, true, false}
-use mathlib.Core.List.{List, [], _++_}
-use lib.Dec.{ltb, leb, eqb}
-use lib.ListN.{length, getD, set, replicate}
+use mathlib.Core.List.{List, _++_}
+use lib.Dec.{ltb, eqb}
+use lib.ListN.{length, getD, set}
 use Rattle.base.specs.Pick.{pick}
 use Rattle.refusal.specs.declared.Why.the-variants.{WrongVersion, LinkNotAbove, BytesAfter}
 use Rattle.curve.specs.declared.Curve.{Curve}
 use Rattle.groups.specs.Number.{numberAt, encode}
 use Rattle.fields.specs.Parse.{Parse, got, stop, and-then, repeat, number, fieldAt}
+use Rattle.fields.specs.Writing.{inRow}
 use Rattle.fields.specs.CurveFile.{curveFrom, curveBytes}
 use Rattle.board.specs.declared.Link.{Link}
 use Rattle.board.specs.declared.Board.{Board}
-use Rattle.board.specs.Board.{noLink, blankCurve, curveAt, linkAt, order}
+use Rattle.board.specs.Board.{noLink, curveAt, linkAt}
+use Rattle.board.specs.Tests.{blankCurves, blankLinks, belowOf}
 
 -- "version not 1", place 0
 unfoldable pub versionAt : List ℕ → Parse ℕ
 versionAt s = and-then (number (numberAt s 0)) (λ v next. pick (eqb v 1) (got v next) (stop WrongVersion 0))
 
--- part p
-unfoldable pub partFrom : List ℕ → ℕ → List Curve → ℕ → Parse (List Curve)
-partFrom s p curves at = and-then (curveFrom s at) (λ c next. got (set curves p c) next)
+-- what is read next is put in place i of a row
+unfoldable pub inPlace : {A : Type 0} → (ℕ → List A → ℕ → Parse A) → ℕ → List A → ℕ → Parse (List A)
+inPlace read i row at = and-then (read i row at) (λ a next. got (set row i a) next)
 
--- the least place in the order of from, then to, that link l may have: above the link before it
-unfoldable pub leastOrder : List Link → ℕ → ℕ
-leastOrder links l = pick (eqb l 0) 0 (suc (order (getD links (l - 1) noLink)))
+-- a part is read as its curve, whatever came before it
+unfoldable pub partFrom : List ℕ → ℕ → List Curve → ℕ → Parse Curve
+partFrom s p before at = curveFrom s at
 
--- "self-link; in a file also link not above the one before"
-unfoldable pub above : List Link → ℕ → Link → Bool
-above links l link = pick (eqb (link .from) (link .to)) false (leb (leastOrder links l) (order link))
+-- so many parts
+unfoldable pub partsFrom : List ℕ → ℕ → ℕ → Parse (List Curve)
+partsFrom s parts at = repeat (inPlace (partFrom s)) blankCurves at parts
 
 abbrev pub linkOf : ℕ → ℕ → Link
 linkOf from to = record { from = from; to = to }
 
+-- "self-link; in a file also link not above the one before", which link 0 does not have
+unfoldable pub above : ℕ → Link → Link → Bool
+above l before link = pick (eqb (link .from) (link .to)) false (pick (eqb l 0) true (eqb (belowOf before link) 1))
+
 -- link l of a board of so many parts: "A link end must be below the part count, else 4"; "7 once both ends are read", at from's first byte
-unfoldable pub linkFrom : List ℕ → ℕ → ℕ → List Link → ℕ → Parse (List Link)
-linkFrom s parts l links at =
+unfoldable pub linkFrom : List ℕ → ℕ → ℕ → Link → ℕ → Parse Link
+linkFrom s parts l before at =
     and-then (fieldAt s 0 (parts - 1) at) (λ from at₁.
     and-then (fieldAt s 0 (parts - 1) at₁) (λ to at₂.
-    pick (above links l (linkOf from to)) (got (set links l (linkOf from to)) at₂) (stop LinkNotAbove at)))
+    pick (above l before (linkOf from to)) (got (linkOf from to) at₂) (stop LinkNotAbove at)))
+
+-- a link after those in the row before it
+abbrev pub linkIn : List ℕ → ℕ → ℕ → List Link → ℕ → Parse Link
+linkIn s parts l row at = linkFrom s parts l (getD row (l - 1) noLink) at
+
+-- so many links
+unfoldable pub linksFrom : List ℕ → ℕ → ℕ → ℕ → Parse (List Link)
+linksFrom s parts links at = repeat (inPlace (linkIn s parts)) blankLinks at links
 
 -- "bytes after the design", place: "first of them"
 unfoldable pub wholeAt : List ℕ → Board → ℕ → Parse Board
@@ -55,31 +70,37 @@ boardOf deadline parts curve links link = record {
   link = link;
 }
 
-unfoldable pub noCurves : List Curve
-noCurves = replicate 64 blankCurve
+-- link count and links, and nothing more
+unfoldable pub linkedFrom : List ℕ → ℕ → ℕ → List Curve → ℕ → Parse Board
+linkedFrom s deadline parts curve at =
+    and-then (fieldAt s 0 256 at) (λ links at₁.
+    and-then (linksFrom s parts links at₁) (λ link at₂.
+    wholeAt s (boardOf deadline parts curve links link) at₂))
 
-unfoldable pub noLinks : List Link
-noLinks = replicate 256 noLink
+-- parts and all that follows
+unfoldable pub bodyFrom : List ℕ → ℕ → ℕ → ℕ → Parse Board
+bodyFrom s deadline parts at = and-then (partsFrom s parts at) (linkedFrom s deadline parts)
+
+-- deadline, part count and all that follows
+unfoldable pub headFrom : List ℕ → ℕ → Parse Board
+headFrom s at =
+    and-then (fieldAt s 1 4095 at) (λ deadline at₁.
+    and-then (fieldAt s 1 64 at₁) (λ parts at₂.
+    bodyFrom s deadline parts at₂))
 
 -- the board that a file describes, or the first of refusals 1 to 8 with its place
 unfoldable pub designOf : List ℕ → Parse Board
-designOf s =
-    and-then (versionAt s) (λ version at.
-    and-then (fieldAt s 1 4095 at) (λ deadline at₁.
-    and-then (fieldAt s 1 64 at₁) (λ parts at₂.
-    and-then (repeat (partFrom s) noCurves at₂ parts) (λ curve at₃.
-    and-then (fieldAt s 0 256 at₃) (λ links at₄.
-    and-then (repeat (linkFrom s parts) noLinks at₄ links) (λ link at₅.
-    wholeAt s (boardOf deadline parts curve links link) at₅))))))
+designOf s = and-then (versionAt s) (λ version at. headFrom s at)
 
 -- ---- the file of a board
+abbrev pub linkBytes : Link → List ℕ
+linkBytes link = encode (link .from) ++ encode (link .to)
+
 unfoldable pub partsBytes : Board → ℕ → List ℕ
-partsBytes b zero = []
-partsBytes b (suc p) = partsBytes b p ++ curveBytes (curveAt b p)
+partsBytes b k = inRow (λ p. curveBytes (curveAt b p)) k
 
 unfoldable pub linksBytes : Board → ℕ → List ℕ
-linksBytes b zero = []
-linksBytes b (suc l) = linksBytes b l ++ (encode (linkAt b l .from) ++ encode (linkAt b l .to))
+linksBytes b k = inRow (λ l. linkBytes (linkAt b l)) k
 
 unfoldable pub fileOf : Board → List ℕ
 fileOf b =

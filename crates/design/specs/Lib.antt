@@ -1,1 +1,2 @@
 pub mod Design
+pub mod Answers

@@ -100,7 +100,7 @@ pub record Ranged (s : List ℕ) (low high at v n : ℕ) : Type 0 where
   pub to : v ≤ high
   pub read : numberAt s at ≡ Number v n
 
-number-read : (r : Read) (v n : ℕ) → number r ≡ got v n → r ≡ Number v n
+pub number-read : (r : Read) (v n : ℕ) → number r ≡ got v n → r ≡ Number v n
 number-read (Number w m) v n e = cc
 number-read (Refused why place) v n e = let z : _≡_ {A = ℕ} 0 1 = cc in absurd (omega arith)
 

@@ -7,7 +7,7 @@ use Prim.Native.Nat.{ℕ, zero, suc, _+_, _-_, _≤_, _<_}
 use native.Mathlib.Omega.{arith}
 use lib.Dec.{ltb, leb, eqb}
 use lib.ListN.{set}
-use borrow.Author.Tests.{le-leb, lt-leb}
+use borrow.Author.Tests.{not-true, not-false, le-leb, lt-leb}
 use Rattle.base.specs.Pick.{pick}
 use Rattle.refusal.specs.declared.Why.{Why}
 use Rattle.refusal.specs.declared.Why.the-variants.{SavingNotBelow, PowerBelowSavings}
@@ -25,14 +25,6 @@ use Rattle.fields.specs.Parse.{Parse, got, stop, and-then, repeat, numbe
 use Rattle.fields.specs.CurveFile.{bare, withRun, falls, runFrom, runsFrom, curveFrom, curveRead}
 use Rattle.fields.proofs.ParseLaws.{repeat-on, repeat-fault, Ranged, field-got}
 use Rattle.fields.proofs.RunLaws.{RunsGood, RunsRead, runs-read, runs-sized}
-
-not-true : (b : Bool) → not b ≡ true → b ≡ false
-not-true true q = let z : _≡_ {A = ℕ} 0 1 = cc in absurd (omega arith)
-not-true false q = refl
-
-not-false : (b : Bool) → not b ≡ false → b ≡ true
-not-false true q = refl
-not-false false q = let z : _≡_ {A = ℕ} 0 1 = cc in absurd (omega arith)
 
 -- ---- `field`
 module _ (s : List ℕ) (low high at : ℕ) (r : Read) (is : r ≡ numberAt s at) where
@@ -65,11 +57,11 @@ module _ (s : List ℕ) (i : ℕ) (c : Curve) (at : ℕ) (f : Read) (is : number
       run-read h = let b : falls c i saving ≡ true = sym tests ∙ not-false below h in rw (← is, e, ← is₁, e₁, b)
 
 -- ---- what a reading that came to an end stands for
-read-got : (p : Parse Curve) (r : CurveRead) → r ≡ curveRead p → r .answer ≡ Done → p ≡ got (r .curve) (r .next)
+pub read-got : (p : Parse Curve) (r : CurveRead) → r ≡ curveRead p → r .answer ≡ Done → p ≡ got (r .curve) (r .next)
 read-got (got c n) r e d = rw e
 read-got (stop w q) r e d = let z : _≡_ {A = ℕ} 0 1 = cc in absurd (omega arith)
 
-read-stop : (p : Parse Curve) (r : CurveRead) (why : Why) (place : ℕ) → r ≡ curveRead p → r .answer ≡ Refused why place → p ≡ stop why place
+pub read-stop : (p : Parse Curve) (r : CurveRead) (why : Why) (place : ℕ) → r ≡ curveRead p → r .answer ≡ Refused why place → p ≡ stop why place
 read-stop (got c n) r why place e d = let z : _≡_ {A = ℕ} 0 1 = cc in absurd (omega arith)
 read-stop (stop w q) r why place e d = let f : Refused w q ≡ Refused why place = sym (ap (λ (x : CurveRead). x .answer) e) ∙ d in cc
 

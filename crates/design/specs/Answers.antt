@@ -1,0 +1,58 @@
+-- What the reader and the writer of a design file hand back.
+-- Assumes nothing.
+use Prim.Native.Nat.{ℕ}
+use mathlib.Core.List.{List, _++_}
+use lib.Dec.{ltb}
+use lib.ListN.{length, drop}
+use Rattle.base.specs.Pick.{pick}
+use Rattle.refusal.specs.declared.Why.the-variants.{BufferShort}
+use Rattle.refusal.specs.declared.Answer.{Answer}
+use Rattle.refusal.specs.declared.Answer.the-variants.{Done, Refused}
+use Rattle.curve.specs.declared.Curve.{Curve}
+use Rattle.fields.specs.Parse.{Parse, got, stop}
+use Rattle.board.specs.declared.Link.{Link}
+use Rattle.board.specs.declared.Board.{Board}
+use Rattle.board.specs.Board.{noLink}
+use Rattle.board.specs.Tests.{blankCurves, blankLinks, emptyOf}
+use Rattle.design.specs.declared.PartsRead.{PartsRead}
+use Rattle.design.specs.declared.LinkRead.{LinkRead}
+use Rattle.design.specs.declared.LinksRead.{LinksRead}
+use Rattle.design.specs.declared.DesignRead.{DesignRead}
+use Rattle.design.specs.Design.{fileOf}
+
+-- at a fault no curves, no links, no board
+abbrev pub partsStopped : Answer → PartsRead
+partsStopped a = record { answer = a; next = 0; curve = blankCurves }
+
+abbrev pub partsRead : Parse (List Curve) → PartsRead
+partsRead (got curve next) = record { answer = Done; next = next; curve = curve }
+partsRead (stop why place) = partsStopped (Refused why place)
+
+abbrev pub linkRead : Parse Link → LinkRead
+linkRead (got link next) = record { answer = Done; next = next; link = link }
+linkRead (stop why place) = record { answer = Refused why place; next = 0; link = noLink }
+
+abbrev pub linksStopped : Answer → LinksRead
+linksStopped a = record { answer = a; next = 0; link = blankLinks }
+
+abbrev pub linksRead : Parse (List Link) → LinksRead
+linksRead (got link next) = record { answer = Done; next = next; link = link }
+linksRead (stop why place) = linksStopped (Refused why place)
+
+unfoldable pub noBoard : Board
+noBoard = emptyOf (record { 0 = 0 }) 0
+
+abbrev pub stopped : Answer → DesignRead
+stopped a = record { answer = a; board = noBoard }
+
+abbrev pub designRead : Parse Board → DesignRead
+designRead (got b next) = record { answer = Done; board = b }
+designRead (stop why place) = stopped (Refused why place)
+
+-- 16: "buffer shorter than the file to write", place: "bytes needed"
+unfoldable pub writeOf : Board → List ℕ → Answer
+writeOf b buf = pick (ltb (length buf) (length (fileOf b))) (Refused BufferShort (length (fileOf b))) Done
+
+-- a refusal changes no buffer; "when accepted it leaves the buffer past the file as it was"
+unfoldable pub bufferOf : Board → List ℕ → List ℕ
+bufferOf b buf = pick (ltb (length buf) (length (fileOf b))) buf (fileOf b ++ drop (length (fileOf b)) buf)
