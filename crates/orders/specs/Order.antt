@@ -1,12 +1,18 @@
 -- 01, Files: "An order opens with its kind. Kinds 1 to 4 are orders, 0 is reserved, 5 upward are unknown. 1: deadline. 2: from, to, a link to
 -- add. 3: from, to, a link to remove. 4: part, then a whole new curve as in a design file."
 -- Assumes nothing.
-use Prim.Native.Nat.{ℕ}
-use mathlib.Core.List.{List, [], _++_}
+use mathlib.Core.Path.{_≡_}
+use mathlib.Core.Bool.{Bool, true, false}
+use mathlib.Core.List.{List, _++_}
+use Prim.Native.Nat.{ℕ, _≤_, _<_}
 use lib.Dec.{eqb}
+use lib.ListN.{length}
 use Rattle.base.specs.Pick.{pick}
-use Rattle.refusal.specs.declared.Why.the-variants.{UnknownKind}
+use Rattle.refusal.specs.declared.Why.{Why}
+use Rattle.refusal.specs.declared.Why.the-variants.{CutShort, NotShortest, OutOfRange, SavingNotBelow, PowerBelowSavings, UnknownKind}
+use Rattle.refusal.specs.declared.Answer.the-variants.{Done, Refused}
 use Rattle.curve.specs.declared.Curve.{Curve}
+use Rattle.curve.specs.Curve.{Good}
 use Rattle.groups.specs.Number.{numberAt, encode}
 use Rattle.board.specs.Board.{blankCurve}
 use Rattle.fields.specs.Parse.{Parse, got, stop, and-then, number, fieldAt}
@@ -14,6 +20,7 @@ use Rattle.fields.specs.CurveFile.{curveFrom, curveBytes}
 use Rattle.orders.specs.declared.Change.{Change}
 use Rattle.orders.specs.declared.Change.the-variants.{Deadline, AddLink, RemoveLink, NewCurve}
 use Rattle.orders.specs.declared.Order.{Order}
+use Rattle.orders.specs.declared.OrderRead.{OrderRead}
 
 -- an order that brings no curve
 abbrev pub plainly : Change → Order
@@ -26,6 +33,11 @@ partAt s at = fieldAt s 0 63 at
 -- kind 1
 unfoldable pub deadlineFrom : List ℕ → ℕ → Parse Order
 deadlineFrom s at = and-then (fieldAt s 1 4095 at) (λ d next. got (plainly (Deadline (record { 0 = d }))) next)
+
+-- kind 2 adds a link, kind 3 removes one
+abbrev pub linkChange : Bool → ℕ → ℕ → Change
+linkChange true = AddLink
+linkChange false = RemoveLink
 
 -- kinds 2 and 3: both ends of a link, for a link to add or to remove
 unfoldable pub linkFrom : (ℕ → ℕ → Change) → List ℕ → ℕ → Parse Order
@@ -51,18 +63,38 @@ kindFrom s kind at =
 unfoldable pub orderOf : List ℕ → Parse Order
 orderOf s = and-then (number (numberAt s 0)) (kindFrom s)
 
--- ---- the bytes of an order
-abbrev pub changeBytes : Change → List ℕ
-changeBytes (Deadline d) = encode 1 ++ encode (d .0)
-changeBytes (AddLink from to) = encode 2 ++ (encode from ++ encode to)
-changeBytes (RemoveLink from to) = encode 3 ++ (encode from ++ encode to)
-changeBytes (NewCurve part) = encode 4 ++ encode part
+-- "the answer gives the bytes it took, 0 if not read"; where no order was read, a deadline of 0 ticks stands for it, which is no order
+abbrev pub orderRead : Parse Order → OrderRead
+orderRead (got o next) = record { answer = Done; took = next; order = o }
+orderRead (stop why place) = record { answer = Refused why place; took = 0; order = plainly (Deadline (record { 0 = 0 })) }
 
-abbrev pub newCurveBytes : Change → Curve → List ℕ
-newCurveBytes (Deadline d) c = []
-newCurveBytes (AddLink from to) c = []
-newCurveBytes (RemoveLink from to) c = []
-newCurveBytes (NewCurve part) c = curveBytes c
+-- ---- orders in their ranges
+-- "Deadline: 1 to 4,095 ticks"; "part numbers 0 to 63"; a curve as 01 asks it to be, and only a change of a curve brings one
+abbrev pub Ranged : Change → Curve → Type 0
+Ranged (Deadline d) c = (1 ≤ d .0) × (d .0 ≤ 4095) × (c ≡ blankCurve)
+Ranged (AddLink from to) c = (from ≤ 63) × (to ≤ 63) × (c ≡ blankCurve)
+Ranged (RemoveLink from to) c = (from ≤ 63) × (to ≤ 63) × (c ≡ blankCurve)
+Ranged (NewCurve part) c = (part ≤ 63) × Good c
+
+unfoldable pub Orderly : Order → Type 0
+Orderly o = Ranged (o .change) (o .curve)
+
+-- ---- the bytes of an order
+abbrev pub changeBytes : Change → Curve → List ℕ
+changeBytes (Deadline d) c = encode 1 ++ encode (d .0)
+changeBytes (AddLink from to) c = encode 2 ++ (encode from ++ encode to)
+changeBytes (RemoveLink from to) c = encode 3 ++ (encode from ++ encode to)
+changeBytes (NewCurve part) c = encode 4 ++ (encode part ++ curveBytes c)
 
 unfoldable pub orderBytes : Order → List ℕ
-orderBytes o = changeBytes (o .change) ++ newCurveBytes (o .change) (o .curve)
+orderBytes o = changeBytes (o .change) (o .curve)
+
+-- ---- what can be wrong with an order that is read alone
+-- "(1, 2, 12, 4, 5, 6)", each with its place: "input length" for 1, "kind's first byte" for 12, for the others a byte of the input
+pub data Fault (s : List ℕ) : Why → ℕ → Type 0 where
+  cut-short : Fault s CutShort (length s)
+  not-shortest : {at : ℕ} → at < length s → Fault s NotShortest at
+  unknown-kind : 0 < length s → Fault s UnknownKind 0
+  out-of-range : {at : ℕ} → at < length s → Fault s OutOfRange at
+  saving-not-below : {at : ℕ} → at < length s → Fault s SavingNotBelow at
+  power-below-savings : {at : ℕ} → at < length s → Fault s PowerBelowSavings at

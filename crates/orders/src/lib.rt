@@ -1,7 +1,20 @@
-// An order as bytes: read alone, before it is tried.
+// An order as bytes: read alone, before it is tried, and written for tools and tests.
 use curve::Curve;
 use curve::Ticks;
+use groups::Read;
 use refusal::Answer;
+use refusal::Why;
+ghost use mathlib.Core.Path.{_≡_};
+ghost use mathlib.Core.Bool.{true, false};
+ghost use mathlib.Core.List.{_++_};
+ghost use Prim.Native.Nat.{_≤_, _+_};
+ghost use lib.ListN.{length};
+ghost use Rattle.groups.specs.Number.{encode};
+ghost use Rattle.curve.specs.Curve.{Good};
+ghost use Rattle.fields.specs.Parse.{stop};
+ghost use Rattle.fields.specs.CurveFile.{curveBytes};
+ghost use Rattle.fields.specs.Writing.{Wrote};
+ghost use Rattle.orders.specs.Order.{plainly, linkChange, deadlineFrom, linkFrom, newCurveFrom, kindFrom, orderOf, orderRead, Orderly, orderBytes};
 
 // What an order would change: its place, and for all but a curve what is to stand there.
 pub enum Change {
@@ -15,4 +28,200 @@ pub enum Change {
 pub struct Order {
     pub change: Change,
     pub curve: Curve,
+}
+
+// The order that some bytes begin with and the bytes it took, or the first fault with no bytes taken.
+pub struct OrderRead {
+    pub answer: Answer,
+    pub took: usize,
+    pub order: Order,
+}
+
+pub const DEADLINE_MIN: u32 = 1;
+
+pub const DEADLINE_MAX: u32 = 4095;
+
+pub const PART_MAX: u32 = 63;
+
+// An order that brings no curve.
+fn plain(change: Change) -> Order
+    ensures { λ r. ⌜ r ≡ plainly change ⌝ }
+{
+    let curve = board::blank_curve();
+    Order { change, curve }
+}
+
+fn refused(why: Why, place: usize) -> OrderRead
+    ensures { λ r. ⌜ r ≡ orderRead (stop why place) ⌝ }
+{
+    let nothing = Change::Deadline { deadline: Ticks(0) };
+    OrderRead {
+        answer: Answer::Refused { why, place },
+        took: 0,
+        order: plain(nothing),
+    }
+}
+
+// Kind 1: a deadline.
+fn read_deadline(s: &[u8], at: usize) -> OrderRead
+    ensures { λ r. ⌜ r ≡ orderRead (deadlineFrom (now (s .entry)) at) ⌝ }
+{
+    match fields::field(s, at, DEADLINE_MIN, DEADLINE_MAX) {
+        Read::Refused { why, place } => refused(why, place),
+        Read::Number { value, next } => {
+            let change = Change::Deadline {
+                deadline: Ticks(value),
+            };
+            OrderRead {
+                answer: Answer::Done,
+                took: next,
+                order: plain(change),
+            }
+        }
+    }
+}
+
+fn link_change(adds: bool, from: usize, to: usize) -> Change
+    ensures { λ r. ⌜ r ≡ linkChange adds from to ⌝ }
+{
+    if adds {
+        return Change::AddLink { from, to };
+    }
+    Change::RemoveLink { from, to }
+}
+
+// Kinds 2 and 3: from and to of a link to add or to remove.
+fn read_link(s: &[u8], at: usize, adds: bool) -> OrderRead
+    ensures { λ r. ⌜ r ≡ orderRead (linkFrom (linkChange adds) (now (s .entry)) at) ⌝ }
+{
+    match fields::field(s, at, 0, PART_MAX) {
+        Read::Refused { why, place } => refused(why, place),
+        Read::Number {
+            value: from,
+            next: to_at,
+        } => match fields::field(s, to_at, 0, PART_MAX) {
+            Read::Refused { why, place } => refused(why, place),
+            Read::Number { value: to, next } => {
+                let change = link_change(adds, from as usize, to as usize);
+                OrderRead {
+                    answer: Answer::Done,
+                    took: next,
+                    order: plain(change),
+                }
+            }
+        },
+    }
+}
+
+// Kind 4: a part and its new curve.
+fn read_new_curve(s: &[u8], at: usize) -> OrderRead
+    ensures { λ r. ⌜ r ≡ orderRead (newCurveFrom (now (s .entry)) at) ⌝ }
+{
+    match fields::field(s, at, 0, PART_MAX) {
+        Read::Refused { why, place } => refused(why, place),
+        Read::Number {
+            value: part,
+            next: curve_at,
+        } => {
+            let r = fields::read_curve(s, curve_at);
+            let a = r.answer;
+            let curve = r.curve;
+            match a {
+                Answer::Refused { why, place } => refused(why, place),
+                Answer::Done => {
+                    let change = Change::NewCurve {
+                        part: part as usize,
+                    };
+                    OrderRead {
+                        answer: Answer::Done,
+                        took: r.next,
+                        order: Order { change, curve },
+                    }
+                }
+            }
+        }
+    }
+}
+
+// What follows an order's kind.
+fn read_kind(s: &[u8], kind: u32, at: usize) -> OrderRead
+    ensures { λ r. ⌜ r ≡ orderRead (kindFrom (now (s .entry)) kind at) ⌝ }
+{
+    match kind {
+        0 => refused(Why::UnknownKind, 0),
+        1 => read_deadline(s, at),
+        2 => read_link(s, at, true),
+        3 => read_link(s, at, false),
+        4 => read_new_curve(s, at),
+        5..=4294967295 => refused(Why::UnknownKind, 0),
+    }
+}
+
+// Reads the order that s begins with. The bytes past it are the next order's.
+pub fn read_order(s: &[u8]) -> OrderRead
+    ensures { λ r. ⌜ r ≡ orderRead (orderOf (now (s .entry))) ⌝ }
+{
+    match groups::read_number(s, 0) {
+        Read::Refused { why, place } => refused(why, place),
+        Read::Number { value: kind, next } => read_kind(s, kind, next),
+    }
+}
+
+// The bytes that an order takes.
+pub fn order_size(o: Order) -> usize
+    requires { ⌜ Orderly o ⌝ }
+    ensures { λ r. ⌜ r ≡ length (orderBytes o) ⌝ }
+{
+    let change = o.change;
+    match change {
+        Change::Deadline { deadline } => fields::size(1) + fields::size(deadline.0),
+        Change::AddLink { from, to } => fields::size(2)
+            + fields::size(from as u32)
+            + fields::size(to as u32),
+        Change::RemoveLink { from, to } => fields::size(3)
+            + fields::size(from as u32)
+            + fields::size(to as u32),
+        Change::NewCurve { part } => fields::size(4)
+            + fields::size(part as u32)
+            + fields::curve_size(o.curve),
+    }
+}
+
+fn put_two(buf: &mut [u8], at: usize, first: u32, second: u32) -> usize
+    requires { ⌜ at + length (encode first ++ encode second) ≤ length (now buf) ⌝ }
+    ensures { λ r. ⌜ Wrote (now (buf .entry)) at (encode first ++ encode second) r (now (buf .exit)) ⌝ }
+{
+    let next = fields::put(buf, at, first);
+    fields::put(buf, next, second)
+}
+
+fn put_link(buf: &mut [u8], at: usize, kind: u32, from: u32, to: u32) -> usize
+    requires { ⌜ at + length (encode kind ++ (encode from ++ encode to)) ≤ length (now buf) ⌝ }
+    ensures { λ r. ⌜ Wrote (now (buf .entry)) at (encode kind ++ (encode from ++ encode to)) r (now (buf .exit)) ⌝ }
+{
+    let next = fields::put(buf, at, kind);
+    put_two(buf, next, from, to)
+}
+
+fn put_new_curve(buf: &mut [u8], at: usize, part: u32, c: Curve) -> usize
+    requires { ⌜ (Good c) × (at + length (encode 4 ++ (encode part ++ curveBytes c)) ≤ length (now buf)) ⌝ }
+    ensures { λ r. ⌜ Wrote (now (buf .entry)) at (encode 4 ++ (encode part ++ curveBytes c)) r (now (buf .exit)) ⌝ }
+{
+    let part_at = fields::put(buf, at, 4);
+    let curve_at = fields::put(buf, part_at, part);
+    fields::write_curve(buf, curve_at, c)
+}
+
+// Writes an order where there is room for it, and hands back the place past it.
+pub fn write_order(buf: &mut [u8], at: usize, o: Order) -> usize
+    requires { ⌜ (Orderly o) × (at + length (orderBytes o) ≤ length (now buf)) ⌝ }
+    ensures { λ r. ⌜ Wrote (now (buf .entry)) at (orderBytes o) r (now (buf .exit)) ⌝ }
+{
+    let change = o.change;
+    match change {
+        Change::Deadline { deadline } => put_two(buf, at, 1, deadline.0),
+        Change::AddLink { from, to } => put_link(buf, at, 2, from as u32, to as u32),
+        Change::RemoveLink { from, to } => put_link(buf, at, 3, from as u32, to as u32),
+        Change::NewCurve { part } => put_new_curve(buf, at, part as u32, o.curve),
+    }
 }
