@@ -17,8 +17,9 @@ use Rattle.budget.specs.Budget.{Holds}
 use Rattle.budget.proofs.BudgetLaws.{holds-once}
 use Rattle.fields.specs.Parse.{Parse, got, stop}
 use Rattle.design.specs.Design.{designOf}
+use Rattle.design.proofs.DesignLaws.{design-well-formed}
 use Rattle.orders.specs.declared.Order.{Order}
-use Rattle.orders.specs.Order.{orderOf}
+use Rattle.orders.specs.Order.{Orderly, orderOf}
 use Rattle.desk.specs.declared.Tally.{Tally}
 use Rattle.desk.specs.declared.Desk.{Desk}
 use Rattle.desk.specs.declared.Loaded.{Loaded}
@@ -30,7 +31,7 @@ use Rattle.desk.specs.Load as load
 use Rattle.desk.specs.Order as order
 use Rattle.demands.specs.Same.{SameDesk, SameLoaded, SameOrdered}
 use Rattle.demands.proofs.VerdictLaws.{SameVerdict, verdict-once}
-use Rattle.demands.proofs.Tried.{never, Passed, tried-passed, tried-fits, Sound, changed-well}
+use Rattle.demands.proofs.Tried.{never, Passed, tried-passed, tried-fits, changed-well}
 
 -- ---- desks with one board
 pub same-desk : (d d′ : Desk) → d ≡ d′ → SameDesk d d′
@@ -73,6 +74,9 @@ module _ (d : Desk) (t : Tally) where
       LoadParsed p d t r′ → SameLoaded r r′
   load-parsed-once (stop why place) well r r′ is is′ = same-loaded r r′ (is ∙ sym is′)
   load-parsed-once (got b next) well r r′ j j′ = load-judged-once b (well b next refl) r r′ j j′
+
+  pub load-once : (s : List ℕ) (r r′ : Loaded) → LoadSaid d s t r → LoadSaid d s t r′ → SameLoaded r r′
+  load-once s r r′ said said′ = load-parsed-once (designOf s) (design-well-formed s) r r′ said said′
 
   -- a refused load changes nothing
   load-judged-kept : (b : Board) (r : Loaded) {why : Why} {place : ℕ} → LoadJudged b d t r → r .answer ≡ Refused why place → (r .desk ≡ d) × (r .tally ≡ t)
@@ -124,23 +128,23 @@ module _ (d : Desk) (t : Tally) where
     tally = ta ∙ sym ta′;
   }
 
-  module _ (so : Standing d) (o : Order) (s : Sound o) (took : ℕ) (r r′ : Ordered) where
+  module _ (so : Standing d) (o : Order) (orderly : Orderly o) (took : ℕ) (r r′ : Ordered) where
     -- the board as it would be is well formed where it is judged
     pub judged-well : triedOf d t o ≡ Done → WellFormed (changedOf (d .board) o)
     judged-well e =
         let p = tried-passed d t o e in
         let w = standing-holding so (p .held) .kept .formed in
-        changed-well (d .board) w o (tried-fits (d .board) w (o .change) (p .place)) s
+        changed-well (d .board) w o (tried-fits (d .board) w (o .change) (p .place)) orderly
 
     order-tried-once : (a : Answer) → triedOf d t o ≡ a → OrderTried a d t o took r → OrderTried a d t o took r′ → SameOrdered r r′
     order-tried-once (Refused why place) e is is′ = same-ordered r r′ (is ∙ sym is′)
     order-tried-once Done e j j′ = order-judged-once (changedOf (d .board) o) (judged-well e) took r r′ j j′
 
   order-parsed-once :
-      Standing d → (p : Parse Order) → ((o : Order) (took : ℕ) → p ≡ got o took → Sound o) → (r r′ : Ordered) → OrderParsed p d t r →
+      Standing d → (p : Parse Order) → ((o : Order) (took : ℕ) → p ≡ got o took → Orderly o) → (r r′ : Ordered) → OrderParsed p d t r →
       OrderParsed p d t r′ → SameOrdered r r′
-  order-parsed-once so (stop why place) sound r r′ is is′ = same-ordered r r′ (is ∙ sym is′)
-  order-parsed-once so (got o took) sound r r′ j j′ = order-tried-once so o (sound o took refl) took r r′ (triedOf d t o) refl j j′
+  order-parsed-once so (stop why place) orderly r r′ is is′ = same-ordered r r′ (is ∙ sym is′)
+  order-parsed-once so (got o took) orderly r r′ j j′ = order-tried-once so o (orderly o took refl) took r r′ (triedOf d t o) refl j j′
 
   -- a refused order changes the tally at most
   order-judged-kept : (b : Board) (took : ℕ) (r : Ordered) {why : Why} {place : ℕ} → OrderJudged b d t took r → r .answer ≡ Refused why place → r .desk ≡ d

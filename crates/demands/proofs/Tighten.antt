@@ -26,6 +26,7 @@ use Rattle.edits.specs.Changes.{Ends, Addable, LinksOnly, LinkAdded, LinkRemove
 use Rattle.orders.specs.declared.Change.{Change}
 use Rattle.orders.specs.declared.Change.the-variants.{Deadline, AddLink, RemoveLink, NewCurve}
 use Rattle.orders.specs.declared.Order.{Order}
+use Rattle.orders.specs.Order.{Orderly}
 use Rattle.desk.specs.declared.Tally.{Tally}
 use Rattle.desk.specs.declared.Desk.{Desk}
 use Rattle.desk.specs.declared.Ordered.{Ordered}
@@ -33,7 +34,7 @@ use Rattle.desk.specs.Held.{Kept, Holding}
 use Rattle.desk.specs.Order.{changedOf, placeTried, oneTaken, OrderSaid}
 use Rattle.demands.specs.Same.{SameEnd}
 use Rattle.demands.specs.Orders.{Place, the-link, the-curve, placeOf, Apart, changeSeen, ChangesOnly, changeTightens, Tightens, Reads, Makes}
-use Rattle.demands.proofs.Tried.{Passed, Fits, tried-fits, fits-tried, Sound, changed-well, changed-only}
+use Rattle.demands.proofs.Tried.{Passed, Fits, tried-fits, fits-tried, changed-well, changed-only}
 use Rattle.demands.proofs.Steps.{Judges, Stepped, makes-stepped, said-makes}
 use Rattle.demands.proofs.Commute.{boards-commute, fits-next, board-next, steps-commute}
 
@@ -190,7 +191,7 @@ pub record OtherWay (r₁₂ r₂ r₂₁ : Ordered) : Type 0 where
   pub second : r₂₁ .answer ≡ Done
   pub end : SameEnd r₁₂ r₂₁
 
-module _ (d : Desk) (holds : Holding d) (t : Tally) (o o′ : Order) (sound : Sound o) (sound′ : Sound o′) (ne : Apart o o′) (tight : Tightens (d .board) o)
+module _ (d : Desk) (holds : Holding d) (t : Tally) (o o′ : Order) (orderly′ : Orderly o′) (ne : Apart o o′) (tight : Tightens (d .board) o)
     (tight′ : Tightens (d .board) o′) (r₁ r₁₂ : Ordered) (a : Stepped d t o r₁) (a₂ : Stepped (r₁ .desk) (r₁ .tally) o′ r₁₂)
   where
     abbrev b : Board
@@ -221,7 +222,7 @@ module _ (d : Desk) (holds : Holding d) (t : Tally) (o o′ : Order) (sound : So
     seen′ = changed-only b w o′ fits′
 
     w₂ : WellFormed b₂
-    w₂ = changed-well b w o′ fits′ sound′
+    w₂ = changed-well b w o′ fits′ orderly′
 
     next′ : Fits b₂ (o .change)
     next′ = fits-after b b₁ b₂ (o .curve) (o′ .curve) (o .change) (o′ .change) ne fits seen tight seen′ tight′ next

@@ -11,7 +11,6 @@ use Rattle.refusal.specs.declared.Why.{Why}
 use Rattle.refusal.specs.declared.Answer.{Answer}
 use Rattle.refusal.specs.declared.Answer.the-variants.{Done, Refused}
 use Rattle.curve.specs.declared.Curve.{Curve}
-use Rattle.curve.specs.Curve.{Good}
 use Rattle.board.specs.declared.Board.{Board}
 use Rattle.board.specs.Board.{Linked, WellFormed}
 use Rattle.edits.specs.Edits.{linkOf, hasLinkOf, withDeadlineOf, withCurveOf, withLinkOf, withoutLinkOf}
@@ -22,6 +21,7 @@ use Rattle.edits.proofs.LinkEdits.{with-link-well, with-link-added, without-lin
 use Rattle.orders.specs.declared.Change.{Change}
 use Rattle.orders.specs.declared.Change.the-variants.{Deadline, AddLink, RemoveLink, NewCurve}
 use Rattle.orders.specs.declared.Order.{Order}
+use Rattle.orders.specs.Order.{Ranged, Orderly}
 use Rattle.desk.specs.declared.Tally.{Tally}
 use Rattle.desk.specs.declared.Desk.{Desk}
 use Rattle.desk.specs.Order.{changeMade, changedOf, placeTried, triedOf}
@@ -102,23 +102,14 @@ module _ (d : Desk) (t : Tally) (o : Order) where
   unfolding triedOf pick
   passed-tried p = rw (p .held, lt-leb _ _ (p .room), p .place)
 
--- ---- the values that reading asks of an order
-abbrev pub soundChange : Change → Curve → Type 0
-soundChange (Deadline d) c = (1 ≤ d .0) × (d .0 ≤ 4095)
-soundChange (AddLink from to) c = Unit
-soundChange (RemoveLink from to) c = Unit
-soundChange (NewCurve part) c = Good c
-
-abbrev pub Sound : Order → Type 0
-Sound o = soundChange (o .change) (o .curve)
-
+-- ---- the board as it then is
 module _ (b : Board) (w : WellFormed b) where
   -- the board stays well formed,
-  made-well : (c : Change) (k : Curve) → soundChange c k → Fits b c → WellFormed (changeMade b c k)
+  made-well : (c : Change) (k : Curve) → Ranged c k → Fits b c → WellFormed (changeMade b c k)
   made-well (Deadline d) k s f = with-deadline-well b w d (s .0) (s .1)
   made-well (AddLink from to) k s f = with-link-well b w from to f
   made-well (RemoveLink from to) k s f = without-link-well b w from to f
-  made-well (NewCurve part) k s f = with-curve-well b w part k f s
+  made-well (NewCurve part) k s f = with-curve-well b w part k f (s .1)
 
   -- and one place of it changes as ordered
   made-only : (c : Change) (k : Curve) → Fits b c → changeSeen b (changeMade b c k) c k
@@ -128,8 +119,8 @@ module _ (b : Board) (w : WellFormed b) where
   made-only (NewCurve part) k f = with-curve-changed b w part k f
 
   module _ (o : Order) (f : Fits b (o .change)) where
-    pub changed-well : Sound o → WellFormed (changedOf b o)
-    unfolding changedOf
+    pub changed-well : Orderly o → WellFormed (changedOf b o)
+    unfolding changedOf Orderly
     changed-well s = made-well (o .change) (o .curve) s f
 
     pub changed-only : ChangesOnly b (changedOf b o) o
