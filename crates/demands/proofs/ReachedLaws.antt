@@ -25,25 +25,7 @@ use Rattle.desk.specs.Order.{changedOf, triedOf, counts, oneTaken, refusedTally
 use Rattle.desk.specs.Load as load
 use Rattle.desk.specs.Order as order
 use Rattle.demands.specs.Reached.{Reached, loaded, ordered, takenBy, refusedBy, takenIn, refusedIn}
-use Rattle.demands.proofs.Tried.{never}
-
-refused-answer : (r : Loaded) {why : Why} {place : ℕ} → r .answer ≡ Refused why place → r .answer ≡ Done → ⊥
-refused-answer r e done = never (sym e ∙ done)
-
--- ---- an accepted load
-pub record Accepted (b : Board) (r : Loaded) : Type 0 where
-  pub board : r .desk .board ≡ b
-  pub holding : Holding (r .desk)
-  pub tally : r .tally ≡ noTally
-
-module _ (d : Desk) (t : Tally) (r : Loaded) (done : r .answer ≡ Done) where
-  load-judged-done : (b : Board) → LoadJudged b d t r → Accepted b r
-  load-judged-done b (load.refused v is) = absurd (refused-answer r (ap (λ (x : Loaded). x .answer) is) done)
-  load-judged-done b (load.accepted v a p bo h ta) = record { board = bo; holding = h; tally = ta }
-
-  load-parsed-done : (p : Parse Board) → LoadParsed p d t r → (b : Board) × Accepted b r
-  load-parsed-done (stop why place) is = absurd (refused-answer r (ap (λ (x : Loaded). x .answer) is) done)
-  load-parsed-done (got b next) j = (b, load-judged-done b j)
+use Rattle.demands.proofs.LoadLaws.{load-accepted}
 
 -- ---- an order: what it leaves, and what it counts
 refused-counts : (counted : Bool) (t : Tally) → (pick counted (record { taken = t .taken; refused = t .refused + 1 }) t .taken ≡ t .taken + 0) × (pick counted (record { taken = t .taken; refused = t .refused + 1 }) t .refused ≡ t .refused + pick counted 1 0)
@@ -83,7 +65,7 @@ module _ (d : Desk) (h : Holding d) (t : Tally) (r : Ordered) where
 
 -- ---- any list of orders
 pub reached-holding : {d : Desk} {t : Tally} {answers : List Answer} → Reached d t answers → Holding d
-reached-holding (loaded d s t r said done) = load-parsed-done d t r done (designOf s) said .1 .holding
+reached-holding (loaded d s t r said done) = load-accepted d t r s said done .so .holding
 reached-holding (ordered {d = d} {t = t} before s r said) = order-leaves d (reached-holding before) t r s said .holding
 
 -- "After any list of orders the held budget is the one that demand 2 gives the board as it then stands."
@@ -104,7 +86,7 @@ unfolding takenIn refusedIn
 none-yet t is = rw is (record { taken = refl; refused = refl })
 
 pub reached-tally : {d : Desk} {t : Tally} {answers : List Answer} → Reached d t answers → Tallied t answers
-reached-tally (loaded d s t r said done) = none-yet (r .tally) (load-parsed-done d t r done (designOf s) said .1 .tally)
+reached-tally (loaded d s t r said done) = none-yet (r .tally) (load-accepted d t r s said done .so .tally)
 reached-tally (ordered {d = d} {t = t} {answers = answers} before s r said) =
     one-more t (r .tally) (r .answer) answers (reached-tally before) (order-leaves d (reached-holding before) t r s said .counted)
 

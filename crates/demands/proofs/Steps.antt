@@ -11,13 +11,16 @@ use Rattle.theory.specs.Budget.{Budget}
 use Rattle.board.specs.declared.Board.{Board}
 use Rattle.board.specs.Board.{usable, view, WellFormed}
 use Rattle.board.specs.Path.{LoopFree}
+use Rattle.budget.specs.declared.Budget as value
+use Rattle.budget.specs.Made.{timesIn}
+use Rattle.budget.proofs.BudgetLaws.{allowed-budget}
 use Rattle.fields.specs.Parse.{Parse, got, stop}
 use Rattle.orders.specs.declared.Order.{Order}
 use Rattle.orders.specs.Order.{orderOf}
 use Rattle.desk.specs.declared.Tally.{Tally}
 use Rattle.desk.specs.declared.Desk.{Desk}
 use Rattle.desk.specs.declared.Ordered.{Ordered}
-use Rattle.desk.specs.Held.{Holding, Verdict}
+use Rattle.desk.specs.Held.{Kept, Holding}
 use Rattle.desk.specs.Order.{changedOf, triedOf, oneTaken, orderRefused, OrderJudged, OrderTried, OrderParsed, OrderSaid}
 use Rattle.desk.specs.Order as order
 use Rattle.demands.specs.Orders.{Reads, Makes, ChangesOnly}
@@ -30,6 +33,15 @@ pub record Judges (b : Board) : Type 0 where
   pub free : LoopFree b
   pub times : Times
   pub budget : Budget (view b) (usable b) times
+
+-- a board that is held with its budget
+pub kept-judges : (b : Board) (r : value.Budget) → Kept b r → Judges b
+kept-judges b r kept = record {
+  formed = kept .formed;
+  free = kept .free;
+  times = timesIn b r;
+  budget = allowed-budget b (kept .formed) r (kept .holds .allowed);
+}
 
 -- an order that was made
 pub record Stepped (d : Desk) (t : Tally) (o : Order) (r : Ordered) : Type 0 where

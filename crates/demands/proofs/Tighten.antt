@@ -19,9 +19,6 @@ use Rattle.board.specs.declared.Board.{Board}
 use Rattle.board.specs.Board.{noCurve, noLink, curveAt, linkAt, usable, view, Linked, WellFormed}
 use Rattle.board.specs.Path.{Path, one, more, LoopFree}
 use Rattle.times.proofs.Lawful.{lawful}
-use Rattle.budget.specs.declared.Budget as value
-use Rattle.budget.specs.Made.{timesIn}
-use Rattle.budget.proofs.BudgetLaws.{allowed-budget}
 use Rattle.edits.specs.Changes.{Ends, Addable, LinksOnly, LinkAdded, LinkRemoved, CurveChanged, DeadlineChanged}
 use Rattle.orders.specs.declared.Change.{Change}
 use Rattle.orders.specs.declared.Change.the-variants.{Deadline, AddLink, RemoveLink, NewCurve}
@@ -30,12 +27,12 @@ use Rattle.orders.specs.Order.{Orderly}
 use Rattle.desk.specs.declared.Tally.{Tally}
 use Rattle.desk.specs.declared.Desk.{Desk}
 use Rattle.desk.specs.declared.Ordered.{Ordered}
-use Rattle.desk.specs.Held.{Kept, Holding}
+use Rattle.desk.specs.Held.{Holding}
 use Rattle.desk.specs.Order.{changedOf, placeTried, oneTaken, OrderSaid}
 use Rattle.demands.specs.Same.{SameEnd}
 use Rattle.demands.specs.Orders.{Place, the-link, the-curve, placeOf, Apart, changeSeen, ChangesOnly, changeTightens, Tightens, Reads, Makes}
 use Rattle.demands.proofs.Tried.{Passed, Fits, tried-fits, fits-tried, changed-well, changed-only}
-use Rattle.demands.proofs.Steps.{Judges, Stepped, makes-stepped, said-makes}
+use Rattle.demands.proofs.Steps.{Judges, kept-judges, Stepped, makes-stepped, said-makes}
 use Rattle.demands.proofs.Commute.{boards-commute, fits-next, board-next, steps-commute}
 
 -- ---- a board that is tighter than another
@@ -111,14 +108,6 @@ module _ (b b′ : Board) (tight : TighterBoard b b′) where
   tighter-judges w ok =
       let so = tighter-possible tighter-view (lawful b w) (lawful b′ (ok .formed)) (tight .usable-le) (ok .times) (ok .budget) in
       record { formed = w; free = free-too (ok .free); times = so .0; budget = so .1 }
-
-pub kept-judges : (b : Board) (r : value.Budget) → Kept b r → Judges b
-kept-judges b r kept = record {
-  formed = kept .formed;
-  free = kept .free;
-  times = timesIn b r;
-  budget = allowed-budget b (kept .formed) r (kept .holds .allowed);
-}
 
 -- ---- an order that tightens does so after another at a different place
 module _ (b b′ : Board) (k k′ : Curve) where
