@@ -20,6 +20,7 @@ use Rattle.design.specs.Design.{designOf}
 use Rattle.design.proofs.DesignLaws.{design-well-formed}
 use Rattle.orders.specs.declared.Order.{Order}
 use Rattle.orders.specs.Order.{Orderly, orderOf}
+use Rattle.orders.proofs.OrderLaws.{order-orderly}
 use Rattle.desk.specs.declared.Tally.{Tally}
 use Rattle.desk.specs.declared.Desk.{Desk}
 use Rattle.desk.specs.declared.Loaded.{Loaded}
@@ -145,6 +146,9 @@ module _ (d : Desk) (t : Tally) where
       OrderParsed p d t r′ → SameOrdered r r′
   order-parsed-once so (stop why place) orderly r r′ is is′ = same-ordered r r′ (is ∙ sym is′)
   order-parsed-once so (got o took) orderly r r′ j j′ = order-tried-once so o (orderly o took refl) took r r′ (triedOf d t o) refl j j′
+
+  pub order-once : Standing d → (s : List ℕ) (r r′ : Ordered) → OrderSaid d s t r → OrderSaid d s t r′ → SameOrdered r r′
+  order-once so s r r′ said said′ = order-parsed-once so (orderOf s) (order-orderly s) r r′ said said′
 
   -- a refused order changes the tally at most
   order-judged-kept : (b : Board) (took : ℕ) (r : Ordered) {why : Why} {place : ℕ} → OrderJudged b d t took r → r .answer ≡ Refused why place → r .desk ≡ d

@@ -83,3 +83,21 @@ module _ (d : Desk) (t : Tally) (o : Order) (r : Ordered) where
   stepped-only h so =
       let fits : Fits (d .board) (o .change) = tried-fits (d .board) (h .kept .formed) (o .change) (so .passed .place) in
       rw (so .board) (changed-only (d .board) (h .kept .formed) o fits)
+
+-- demand 3: "An order is made exactly when no listed refusal applies, and changes its one place and nothing else."
+module _ (d : Desk) (h : Holding d) (t : Tally) (s : List ℕ) (o : Order) (reads : Reads s o) (r : Ordered) (said : OrderSaid d s t r) where
+  -- none of 18, 17, 7, 13, 14, 15, 9 and 10 applies; 11 does not, since a board is held
+  pub record Allows : Type 0 where
+    pub passed : Passed d t (o .change)
+    pub judges : Judges (changedOf (d .board) o)
+
+  pub order-made : Allows → Makes d s t r
+  order-made may = said-makes d t o r s reads (may .passed) (may .judges) said
+
+  pub made-allows : r .answer ≡ Done → Allows
+  made-allows done =
+      let so = makes-stepped d t o r s reads (record { said = said; done = done }) in
+      record { passed = so .passed; judges = rw (so .board) at (kept-judges (r .desk .board) (r .desk .budget) (so .holding .kept)) }
+
+  pub made-changes-only : r .answer ≡ Done → ChangesOnly (d .board) (r .desk .board) o
+  made-changes-only done = stepped-only d t o r h (makes-stepped d t o r s reads (record { said = said; done = done }))

@@ -24,6 +24,7 @@ use Rattle.orders.specs.declared.Change.{Change}
 use Rattle.orders.specs.declared.Change.the-variants.{Deadline, AddLink, RemoveLink, NewCurve}
 use Rattle.orders.specs.declared.Order.{Order}
 use Rattle.orders.specs.Order.{Orderly}
+use Rattle.orders.proofs.OrderLaws.{order-orderly}
 use Rattle.desk.specs.declared.Tally.{Tally}
 use Rattle.desk.specs.declared.Desk.{Desk}
 use Rattle.desk.specs.declared.Ordered.{Ordered}
@@ -259,3 +260,14 @@ module _ (d : Desk) (holds : Holding d) (t : Tally) (o o′ : Order) (orderly′
         second = second-made .done;
         end = steps-commute d holds t o o′ ne r₁ r₁₂ r₂ r₂₁ a a₂ first-stepped (makes-stepped (r₂ .desk) (r₂ .tally) o r₂₁ s reads second-made);
       }
+
+-- demand 3: "if both only tighten and one sequence is accepted, so is the other, up to the same end"
+pub tightening-commutes :
+    (d : Desk) → Holding d → (t : Tally) (s s′ : List ℕ) (o o′ : Order) → Reads s o → Reads s′ o′ → Apart o o′ → Tightens (d .board) o → Tightens (d .board) o′ →
+    (r₁ r₁₂ : Ordered) → Makes d s t r₁ → Makes (r₁ .desk) s′ (r₁ .tally) r₁₂ →
+    (r₂ r₂₁ : Ordered) → OrderSaid d s′ t r₂ → OrderSaid (r₂ .desk) s (r₂ .tally) r₂₁ → OtherWay r₁₂ r₂ r₂₁
+tightening-commutes d h t s s′ o o′ reads reads′ ne tight tight′ r₁ r₁₂ m₁ m₁₂ r₂ r₂₁ said said₂ =
+    tightening-steps d h t o o′ (order-orderly s′ o′ (reads′ .took) (reads′ .read)) ne tight tight′ r₁ r₁₂
+    (makes-stepped d t o r₁ s reads m₁)
+    (makes-stepped (r₁ .desk) (r₁ .tally) o′ r₁₂ s′ reads′ m₁₂)
+    s s′ reads reads′ r₂ r₂₁ said said₂
