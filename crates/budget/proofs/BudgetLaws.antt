@@ -116,7 +116,7 @@ module _ (b : Board) (ok : WellFormed b) where
           };
         }
 
-    value-alike : Alike (view b) τ (timesIn b (valueOf b τ))
+    pub value-alike : Alike (view b) τ (timesIn b (valueOf b τ))
     unfolding valueOf budgetOf timesIn view
     value-alike = record {
       start-eq = λ p h. sym (start-is p h);

@@ -83,10 +83,10 @@ fn total(n: usize, power: [u32; 64]) -> u64
     ensures { λ r. ⌜ r ≡ totalOf n power ⌝ }
 {
     let mut sum: u64 = 0;
-    let mut k: usize = 0;
-    while k < n {
-        sum = with_power(sum, Microwatts(power[k]));
-        k = k + 1;
+    let mut p: usize = 0;
+    while p < n {
+        sum = with_power(sum, Microwatts(power[p]));
+        p = p + 1;
     }
     sum
 }

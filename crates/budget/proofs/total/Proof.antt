@@ -8,10 +8,10 @@ use Rattle.budget.proofs.total.Lts as lts
 use Rattle.budget.proofs.with_power.Reads as with-power-reads
 
 abbrev Inv-loop : tie.InvT-loop
-Inv-loop n power sum₀ k₀ sum k = (k ≤ n) × Summed power sum k
+Inv-loop n power sum₀ p₀ sum p = (p ≤ n) × Summed power sum p
 
 abbrev μ-loop : tie.MeasureT-loop
-μ-loop n power sum₀ k₀ sum k = n - k
+μ-loop n power sum₀ p₀ sum p = n - p
 
 -- src/lib.rt:87:5
 loop-holds : tie.Need-loop-holds Inv-loop μ-loop
@@ -30,8 +30,8 @@ with-power-requires : tie.Need-with-power-requires Inv-loop μ-loop
 with-power-requires c κs = search (total-fits)
 
 -- src/lib.rt:89:13
-add-k : tie.Need-add-k Inv-loop μ-loop
-add-k c = search needs
+add-p : tie.Need-add-p Inv-loop μ-loop
+add-p c = search needs
 
 -- src/lib.rt:87:5
 loop-less : tie.Need-loop-less Inv-loop μ-loop
@@ -55,7 +55,7 @@ total-spec =
     mul-t7
     array-read-t10
     with-power-requires
-    add-k
+    add-p
     loop-less
     loop-again
     returns)

@@ -1,0 +1,4 @@
+pub mod Label
+pub mod Lower
+pub mod Push
+pub mod Turn

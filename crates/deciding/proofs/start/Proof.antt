@@ -1,0 +1,68 @@
+use Rattle.deciding.proofs.Rising.{Cleared, clear-begins, clear-more, clear-ends}
+use lib.ListN.{length, length-set}
+use mathlib.Core.Path.{_≡_}
+use Prim.Native.Nat.{_≤_, _<_, _-_}
+use borrow.Author.Needs.{needs}
+use Rattle.deciding.proofs.start.Statement.{statement}
+use Rattle.deciding.proofs.start.Tie as tie
+use Rattle.deciding.proofs.start.Reads as reads
+use Rattle.deciding.proofs.start.Lts as lts
+use Rattle.network.proofs.seen.Reads as seen-reads
+
+abbrev Inv-loop : tie.InvT-loop
+Inv-loop t₀ due v₀ t v = (v ≤ 130) × ((length t ≡ 130) × Cleared v t)
+
+abbrev μ-loop : tie.MeasureT-loop
+μ-loop t₀ due v₀ t v = 130 - v
+
+-- src/lib.rt:256:5
+seen-requires : tie.Need-seen-requires Inv-loop μ-loop
+seen-requires c κs = search needs
+
+-- src/lib.rt:258:5
+loop-holds : tie.Need-loop-holds Inv-loop μ-loop
+loop-holds c = (search needs, (search needs, search (clear-begins)))
+
+-- src/lib.rt:259:9
+mul-t : tie.Need-mul-t Inv-loop μ-loop
+mul-t c = search needs
+
+-- src/lib.rt:259:9
+element-write-t : tie.Need-element-write-t Inv-loop μ-loop
+element-write-t c = search needs
+
+-- src/lib.rt:260:13
+add-v : tie.Need-add-v Inv-loop μ-loop
+add-v c = search needs
+
+-- src/lib.rt:258:5
+loop-less : tie.Need-loop-less Inv-loop μ-loop
+loop-less c = search needs
+
+-- src/lib.rt:258:5
+loop-again : tie.Need-loop-again Inv-loop μ-loop
+loop-again c = (search needs, (simp length-set (search needs), search (clear-more)))
+
+-- src/lib.rt:262:5
+element-write-t-2 : tie.Need-element-write-t-2 Inv-loop μ-loop
+element-write-t-2 c = search needs
+
+-- src/lib.rt:253:1
+returns : tie.Need-returns Inv-loop μ-loop
+returns c = search (clear-ends)
+
+pub start-spec : {M : Type 1} → statement M
+start-spec =
+    tie.close
+    (tie.spec
+    Inv-loop
+    μ-loop
+    seen-requires
+    loop-holds
+    mul-t
+    element-write-t
+    add-v
+    loop-less
+    loop-again
+    element-write-t-2
+    returns)

@@ -1,0 +1,123 @@
+use Prim.Native.Nat.{_-_, _≤_}
+use Rattle.solver.specs.Steps.{Placing}
+use Rattle.solver.proofs.Steps.{place-none, place-more, place-done}
+use borrow.Author.Needs.{needs}
+use Rattle.solver.proofs.begin.Statement.{statement}
+use Rattle.solver.proofs.begin.Tie as tie
+use Rattle.solver.proofs.begin.Reads as reads
+use Rattle.solver.proofs.begin.Lts as lts
+use Rattle.network.proofs.seen.Reads as seen-reads
+use Rattle.solver.proofs.larger.Reads as larger-reads
+
+abbrev Inv-loop : tie.InvT-loop
+Inv-loop due t₀ start end most₀ k₀ t most k = (k ≤ 64) × Placing start end due k t most
+
+abbrev μ-loop : tie.MeasureT-loop
+μ-loop due t₀ start end most₀ k₀ t most k = 64 - k
+
+-- src/lib.rt:68:5
+seen-requires : tie.Need-seen-requires Inv-loop μ-loop
+seen-requires c κs = search needs
+
+-- src/lib.rt:71:5
+loop-holds : tie.Need-loop-holds Inv-loop μ-loop
+loop-holds c = (search needs, search (place-none))
+
+-- src/lib.rt:72:16
+mul-t : tie.Need-mul-t Inv-loop μ-loop
+mul-t c = search needs
+
+-- src/lib.rt:72:16
+array-read-t : tie.Need-array-read-t Inv-loop μ-loop
+array-read-t c = search needs
+
+-- src/lib.rt:72:9
+mul-t-2 : tie.Need-mul-t-2 Inv-loop μ-loop
+mul-t-2 c = search needs
+
+-- src/lib.rt:72:9
+element-write-t : tie.Need-element-write-t Inv-loop μ-loop
+element-write-t c = search needs
+
+-- src/lib.rt:73:21
+mul-t-3 : tie.Need-mul-t-3 Inv-loop μ-loop
+mul-t-3 c = search needs
+
+-- src/lib.rt:73:21
+array-read-t-2 : tie.Need-array-read-t-2 Inv-loop μ-loop
+array-read-t-2 c = search needs
+
+-- src/lib.rt:73:11
+add-t : tie.Need-add-t Inv-loop μ-loop
+add-t c = search needs
+
+-- src/lib.rt:73:9
+mul-t-4 : tie.Need-mul-t-4 Inv-loop μ-loop
+mul-t-4 c = search needs
+
+-- src/lib.rt:73:9
+element-write-t-2 : tie.Need-element-write-t-2 Inv-loop μ-loop
+element-write-t-2 c = search needs
+
+-- src/lib.rt:74:29
+mul-larger : tie.Need-mul-larger Inv-loop μ-loop
+mul-larger c = search needs
+
+-- src/lib.rt:74:29
+array-read-larger : tie.Need-array-read-larger Inv-loop μ-loop
+array-read-larger c = search needs
+
+-- src/lib.rt:74:9
+larger-requires : tie.Need-larger-requires Inv-loop μ-loop
+larger-requires c κs = search needs
+
+-- src/lib.rt:75:13
+add-k : tie.Need-add-k Inv-loop μ-loop
+add-k c = search needs
+
+-- src/lib.rt:71:5
+loop-less : tie.Need-loop-less Inv-loop μ-loop
+loop-less c = search needs
+
+-- src/lib.rt:71:5
+loop-again : tie.Need-loop-again Inv-loop μ-loop
+loop-again c = (search needs, search (place-more))
+
+-- src/lib.rt:77:5
+element-write-t-3 : tie.Need-element-write-t-3 Inv-loop μ-loop
+element-write-t-3 c = search needs
+
+-- src/lib.rt:78:5
+element-write-t-4 : tie.Need-element-write-t-4 Inv-loop μ-loop
+element-write-t-4 c = search needs
+
+-- src/lib.rt:65:1
+returns : tie.Need-returns Inv-loop μ-loop
+returns c = search (place-done)
+
+pub begin-spec : {M : Type 1} → statement M
+begin-spec =
+    tie.close
+    (tie.spec
+    Inv-loop
+    μ-loop
+    seen-requires
+    loop-holds
+    mul-t
+    array-read-t
+    mul-t-2
+    element-write-t
+    mul-t-3
+    array-read-t-2
+    add-t
+    mul-t-4
+    element-write-t-2
+    mul-larger
+    array-read-larger
+    larger-requires
+    add-k
+    loop-less
+    loop-again
+    element-write-t-3
+    element-write-t-4
+    returns)

@@ -1,0 +1,2 @@
+pub mod Solve
+pub mod Steps
