@@ -1,0 +1,4 @@
+pub mod Places
+pub mod Pricing
+pub mod Sheets
+pub mod Fitting

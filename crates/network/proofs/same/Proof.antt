@@ -1,0 +1,71 @@
+use Rattle.network.proofs.Sheets.{agree-begins, agree-more, agree-ends, agree-fails}
+use Rattle.network.specs.Sheet.{Agree}
+use Prim.Native.Nat.{_≤_, _-_}
+use borrow.Author.Needs.{needs}
+use Rattle.network.proofs.same.Statement.{statement}
+use Rattle.network.proofs.same.Tie as tie
+use Rattle.network.proofs.same.Reads as reads
+use Rattle.network.proofs.same.Lts as lts
+
+abbrev Inv-loop : tie.InvT-loop
+Inv-loop p q v₀ v = (v ≤ 128) × Agree v p q
+
+abbrev μ-loop : tie.MeasureT-loop
+μ-loop p q v₀ v = 128 - v
+
+-- src/lib.rt:203:5
+loop-holds : tie.Need-loop-holds Inv-loop μ-loop
+loop-holds c = (search needs, search (agree-begins))
+
+-- src/lib.rt:204:12
+mul-if1 : tie.Need-mul-if1 Inv-loop μ-loop
+mul-if1 c = search needs
+
+-- src/lib.rt:204:12
+element-copy-out-if1 : tie.Need-element-copy-out-if1 Inv-loop μ-loop
+element-copy-out-if1 c = search needs
+
+-- src/lib.rt:204:20
+mul-if1-2 : tie.Need-mul-if1-2 Inv-loop μ-loop
+mul-if1-2 c = search needs
+
+-- src/lib.rt:204:20
+element-copy-out-if1-2 : tie.Need-element-copy-out-if1-2 Inv-loop μ-loop
+element-copy-out-if1-2 c = search needs
+
+-- src/lib.rt:205:13
+returns : tie.Need-returns Inv-loop μ-loop
+returns c = search (agree-ends, agree-fails)
+
+-- src/lib.rt:207:13
+add-v : tie.Need-add-v Inv-loop μ-loop
+add-v c = search needs
+
+-- src/lib.rt:203:5
+loop-less : tie.Need-loop-less Inv-loop μ-loop
+loop-less c = search needs
+
+-- src/lib.rt:203:5
+loop-again : tie.Need-loop-again Inv-loop μ-loop
+loop-again c = (search needs, search (agree-more))
+
+-- src/lib.rt:199:1
+returns-2 : tie.Need-returns-2 Inv-loop μ-loop
+returns-2 c = search (agree-ends, agree-fails)
+
+pub same-spec : {M : Type 1} → statement M
+same-spec =
+    tie.close
+    (tie.spec
+    Inv-loop
+    μ-loop
+    loop-holds
+    mul-if1
+    element-copy-out-if1
+    mul-if1-2
+    element-copy-out-if1-2
+    returns
+    add-v
+    loop-less
+    loop-again
+    returns-2)
