@@ -35,5 +35,5 @@ abbrev pub LoadParsed : Parse Board → Desk → Tally → Loaded → Type 0
 LoadParsed (stop why place) d t r = r ≡ loadRefused (Refused why place) [] d t
 LoadParsed (got b next) d t r = LoadJudged b d t r
 
-abbrev pub LoadSaid : Desk → List ℕ → Tally → Loaded → Type 0
-LoadSaid d s t r = LoadParsed (designOf s) d t r
+pub record LoadSaid (d : Desk) (s : List ℕ) (t : Tally) (r : Loaded) : Type 0 where
+  pub parsed : LoadParsed (designOf s) d t r

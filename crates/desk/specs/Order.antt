@@ -43,7 +43,7 @@ use Rattle.orders.specs.Order.{orderOf}
 use Rattle.desk.specs.declared.Tally.{Tally}
 use Rattle.desk.specs.declared.Desk.{Desk}
 use Rattle.desk.specs.declared.Ordered.{Ordered}
-use Rattle.desk.specs.Held.{Holding, Verdict}
+use Rattle.desk.specs.Held.{Holding, Standing, Verdict}
 
 -- "exactly its one place changes": the board with the change made
 abbrev pub changeMade : Board → Change → Curve → Board
@@ -139,5 +139,10 @@ abbrev pub OrderParsed : Parse Order → Desk → Tally → Ordered → Type 0
 OrderParsed (stop why place) d t r = r ≡ orderRefused why place 0 [] d t
 OrderParsed (got o took) d t r = OrderTried (triedOf d t o) d t o took r
 
-abbrev pub OrderSaid : Desk → List ℕ → Tally → Ordered → Type 0
-OrderSaid d s t r = OrderParsed (orderOf s) d t r
+pub record OrderSaid (d : Desk) (s : List ℕ) (t : Tally) (r : Ordered) : Type 0 where
+  pub parsed : OrderParsed (orderOf s) d t r
+
+-- what is promised of an order: all of that on a desk that stands, and on any desk that a refusal changes the tally at most
+pub record OrderGiven (d : Desk) (s : List ℕ) (t : Tally) (r : Ordered) : Type 0 where
+  pub said : Standing d → OrderSaid d s t r
+  pub stays : (why : Why) (place : ℕ) → r .answer ≡ Refused why place → (r .desk ≡ d) × (r .tally ≡ refusedTally why t)
