@@ -1,3 +1,4 @@
+use Rattle.desk.proofs.Judging.{empty-is}
 use borrow.Author.Needs.{needs}
 use Rattle.desk.proofs.empty.Statement.{statement}
 use Rattle.desk.proofs.empty.Tie as tie
@@ -21,7 +22,7 @@ no-advice-requires c κs = search needs
 
 -- src/lib.rt:97:1
 returns : tie.Need-returns
-returns c = search needs
+returns c = search (empty-is)
 
 pub empty-spec : {M : Type 1} → statement M
 empty-spec = tie.close (tie.spec empty-requires no-budget-requires no-advice-requires returns)

@@ -1,3 +1,4 @@
+use Rattle.desk.proofs.Judging.{free-timely, on-loop}
 use borrow.Author.Needs.{needs}
 use Rattle.desk.proofs.judge.Statement.{statement}
 use Rattle.desk.proofs.judge.Tie as tie
@@ -25,11 +26,11 @@ enum-told c = search needs
 
 -- src/lib.rt:151:23
 judge-time-requires : tie.Need-judge-time-requires
-judge-time-requires c κs = search needs
+judge-time-requires c κs = search (free-timely)
 
 -- src/lib.rt:138:1
 returns : tie.Need-returns
-returns c = search needs
+returns c = search (on-loop)
 
 -- src/lib.rt:138:1
 returns-2 : tie.Need-returns-2

@@ -1,3 +1,4 @@
+use Rattle.desk.proofs.Judging.{load-unread, load-formed, load-refused, load-done}
 use borrow.Author.Needs.{needs}
 use Rattle.desk.proofs.load.Statement.{statement}
 use Rattle.desk.proofs.load.Tie as tie
@@ -25,7 +26,7 @@ no-path-requires c κs = search needs
 
 -- src/lib.rt:189:9
 returns : tie.Need-returns
-returns c = search needs
+returns c = search (load-unread)
 
 -- src/lib.rt:197:26
 no-advice-requires : tie.Need-no-advice-requires
@@ -33,7 +34,7 @@ no-advice-requires c κs = search needs
 
 -- src/lib.rt:197:9
 settle-requires : tie.Need-settle-requires
-settle-requires c κs = search needs
+settle-requires c κs = search (load-formed)
 
 enum-told-3 : tie.Need-enum-told-3
 enum-told-3 c = search needs
@@ -44,11 +45,11 @@ enum-told-4 c = search needs
 
 -- src/lib.rt:202:9
 returns-2 : tie.Need-returns-2
-returns-2 c = search needs
+returns-2 c = search (load-refused)
 
 -- src/lib.rt:183:1
 returns-3 : tie.Need-returns-3
-returns-3 c = search needs
+returns-3 c = search (load-done)
 
 pub load-spec : {M : Type 1} → statement M
 load-spec =

@@ -1,3 +1,4 @@
+use Rattle.desk.specs.Empty.{noAdvice}
 use borrow.Author.Needs.{needs}
 use Rattle.desk.proofs.no_advice.Statement.{statement}
 use Rattle.desk.proofs.no_advice.Tie as tie
@@ -6,6 +7,7 @@ use Rattle.desk.proofs.no_advice.Lts as lts
 
 -- src/lib.rt:90:1
 returns : tie.Need-returns
+unfolding noAdvice
 returns c = search needs
 
 pub no-advice-spec : {M : Type 1} → statement M

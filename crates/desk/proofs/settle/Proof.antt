@@ -1,3 +1,4 @@
+use Rattle.desk.proofs.Judging.{settle-refused, settle-solvable, settle-done}
 use borrow.Author.Needs.{needs}
 use Rattle.desk.proofs.settle.Statement.{statement}
 use Rattle.desk.proofs.settle.Tie as tie
@@ -19,15 +20,15 @@ enum-told-2 c = search needs
 
 -- src/lib.rt:164:9
 returns : tie.Need-returns
-returns c = search needs
+returns c = search (settle-refused)
 
 -- src/lib.rt:170:9
 solve-requires : tie.Need-solve-requires
-solve-requires c κs = search needs
+solve-requires c κs = search (settle-solvable)
 
 -- src/lib.rt:156:1
 returns-2 : tie.Need-returns-2
-returns-2 c = search needs
+returns-2 c = search (settle-done)
 
 pub settle-spec : {M : Type 1} → statement M
 settle-spec =
