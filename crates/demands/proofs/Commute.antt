@@ -18,7 +18,7 @@ use Rattle.desk.specs.Held.{Holding}
 use Rattle.desk.specs.Order.{changeMade, changedOf, oneTaken}
 use Rattle.demands.specs.Same.{SameEnd}
 use Rattle.demands.specs.Orders.{Place, the-curve, placeOf, Apart, Reads, Makes}
-use Rattle.demands.proofs.Tried.{Fits, tried-fits}
+use Rattle.desk.proofs.Tried.{Fits, tried-fits}
 use Rattle.demands.proofs.Once.{one-board}
 use Rattle.demands.proofs.Steps.{Stepped, makes-stepped}
 

@@ -19,7 +19,7 @@ use Rattle.desk.specs.Held.{Holding, Verdict}
 use Rattle.desk.specs.Load.{noTally, LoadJudged, LoadParsed, LoadSaid}
 use Rattle.desk.specs.Load as load
 use Rattle.demands.proofs.VerdictLaws.{verdict-done}
-use Rattle.demands.proofs.Tried.{never}
+use Rattle.desk.proofs.Tried.{never}
 use Rattle.demands.proofs.Steps.{Judges, kept-judges}
 
 -- refusals 1 to 8 do not apply: the file describes a board

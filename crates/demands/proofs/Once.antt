@@ -32,7 +32,7 @@ use Rattle.desk.specs.Load as load
 use Rattle.desk.specs.Order as order
 use Rattle.demands.specs.Same.{SameDesk, SameLoaded, SameOrdered}
 use Rattle.demands.proofs.VerdictLaws.{SameVerdict, verdict-once}
-use Rattle.demands.proofs.Tried.{never, Passed, tried-passed, tried-fits, changed-well}
+use Rattle.desk.proofs.Tried.{never, Passed, tried-passed, tried-fits, changed-well}
 
 -- ---- desks with one board
 pub same-desk : (d d′ : Desk) → d ≡ d′ → SameDesk d d′

@@ -25,7 +25,8 @@ use Rattle.desk.specs.Order.{changedOf, triedOf, oneTaken, orderRefused, OrderJ
 use Rattle.desk.specs.Order as order
 use Rattle.demands.specs.Orders.{Reads, Makes, ChangesOnly}
 use Rattle.demands.proofs.VerdictLaws.{verdict-done}
-use Rattle.demands.proofs.Tried.{never, Passed, tried-passed, passed-tried, tried-fits, Fits, changed-only}
+use Rattle.desk.proofs.Tried.{never, Passed, tried-passed, passed-tried, tried-fits, Fits}
+use Rattle.demands.proofs.Tried.{changed-only}
 
 -- a board that is judged and refused for nothing
 pub record Judges (b : Board) : Type 0 where

@@ -32,7 +32,8 @@ use Rattle.desk.specs.Held.{Holding}
 use Rattle.desk.specs.Order.{changedOf, placeTried, oneTaken, OrderSaid}
 use Rattle.demands.specs.Same.{SameEnd}
 use Rattle.demands.specs.Orders.{Place, the-link, the-curve, placeOf, Apart, changeSeen, ChangesOnly, changeTightens, Tightens, Reads, Makes}
-use Rattle.demands.proofs.Tried.{Passed, Fits, tried-fits, fits-tried, changed-well, changed-only}
+use Rattle.desk.proofs.Tried.{Passed, Fits, tried-fits, fits-tried, changed-well}
+use Rattle.demands.proofs.Tried.{changed-only}
 use Rattle.demands.proofs.Steps.{Judges, kept-judges, Stepped, makes-stepped, said-makes}
 use Rattle.demands.proofs.Commute.{boards-commute, fits-next, board-next, steps-commute}
 

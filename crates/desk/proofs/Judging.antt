@@ -42,9 +42,7 @@ use Rattle.desk.specs.Load.{noTally, loadRefused, LoadJudged, LoadParsed
 use Rattle.desk.specs.Load as load
 use Rattle.desk.specs.Steps.{Timely, JudgedOf, SettledOf}
 use Rattle.desk.specs.Steps as steps
-
-pub never : {A : Type 0} {why : Why} {place : ℕ} → Refused why place ≡ Done → A
-never e = absurd (let z : _≡_ {A = ℕ} 0 1 = cc in omega arith)
+use Rattle.desk.proofs.Tried.{never}
 
 pub off-on : {A : Type 0} {t : Bool} → t ≡ false → t ≡ true → A
 off-on off on = absurd (let z : _≡_ {A = ℕ} 0 1 = cc in omega arith)

@@ -10,15 +10,16 @@ use Rattle.refusal.specs.declared.Answer.the-variants.{Done, Refused}
 use Rattle.board.specs.declared.Board.{Board}
 use Rattle.board.specs.Board.{WellFormed}
 use Rattle.board.specs.Path.{LoopFree}
+use Rattle.slow.specs.declared.Trail.{Trail}
 use Rattle.slow.specs.Walk.{trailOf}
 use Rattle.orders.specs.declared.Order.{Order}
-use Rattle.orders.specs.Order.{Orderly}
 use Rattle.desk.specs.declared.Tally.{Tally}
 use Rattle.desk.specs.declared.Desk.{Desk}
 use Rattle.desk.specs.declared.Judged.{Judged}
 use Rattle.desk.specs.declared.Settled.{Settled}
+use Rattle.desk.specs.declared.Ordered.{Ordered}
 use Rattle.desk.specs.Held.{Holding, Standing, Verdict}
-use Rattle.desk.specs.Order.{changedOf, placeTried, triedOf, counts}
+use Rattle.desk.specs.Order.{changedOf, triedOf, counts, refusedTally, OrderTried}
 
 -- a board whose time is judged
 pub record Timely (b : Board) : Type 0 where
@@ -60,3 +61,12 @@ pub record TriedSaid (d : Desk) (t : Tally) (o : Order) (r : Answer) : Type 0 wh
   pub said : Standing d → r ≡ triedOf d t o
   pub countable : (why : Why) (place : ℕ) → r ≡ Refused why place → Countable why t
   pub may : r ≡ Done → MayMake d t o
+
+-- a refused order leaves the desk as it was and counts itself at most
+pub record OrderRefused (why : Why) (place took : ℕ) (path : Trail) (d : Desk) (t : Tally) (r : Ordered) : Type 0 where
+  pub is : r ≡ record { answer = Refused why place; took = took; path = path; desk = d; tally = refusedTally why t }
+
+-- an order that was read comes to what 01 says, on a desk that stands; a refusal keeps the desk, on any
+pub record Attempted (d : Desk) (t : Tally) (o : Order) (took : ℕ) (r : Ordered) : Type 0 where
+  pub said : Standing d → OrderTried (triedOf d t o) d t o took r
+  pub stays : (why : Why) (place : ℕ) → r .answer ≡ Refused why place → (r .desk ≡ d) × (r .tally ≡ refusedTally why t)
