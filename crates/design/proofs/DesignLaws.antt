@@ -29,7 +29,7 @@ use Rattle.board.specs.declared.Board.{Board}
 use Rattle.board.specs.Board.{noCurve, noLink, blankCurve, curveAt, linkAt, order, WellFormed}
 use Rattle.board.specs.Tests.{blankCurves, blankLinks, belowOf}
 use Rattle.board.proofs.LinkLaws.{passed, below-one, below-order}
-use Rattle.design.specs.Design.{versionAt, inPlace, partFrom, partsFrom, linkOf, above, linkFrom, linkIn, linksFrom, wholeAt, boardOf, linkedFrom, bodyFrom, headFrom, designOf, linkBytes, partsBytes, linksBytes, fileOf}
+use Rattle.design.specs.Design.{versionAt, inPlace, partFrom, partsFrom, linkOf, above, linkFrom, linkIn, linksFrom, wholeAt, boardOf, linkedFrom, bodyFrom, headFrom, designOf, linkBytes, partsBytes, linksBytes, linkedBytes, bodyBytes, headBytes, fileOf}
 use Rattle.design.proofs.Rows.{RowRead, OneRead, row-read, row-reads-back}
 
 -- ---- the version
@@ -250,7 +250,7 @@ design-whole s b n is =
 
 -- an accepted file is rewritten byte for byte
 pub read-written : (s : List ℕ) (b : Board) (n : ℕ) → Bytes s → designOf s ≡ got b n → fileOf b ≡ s
-unfolding fileOf partsBytes linksBytes
+unfolding fileOf headBytes bodyBytes linkedBytes partsBytes linksBytes
 read-written s b n bytes is =
     let t = design-told s b n is in
     let all =
@@ -282,7 +282,7 @@ module _ (b : Board) (w : WellFormed b) where
       rw (parts-read-back s at (at + length c) b w (stands-first c r x)) (linked-read-back s (at + length c) n ended (stands-then c r x))
 
   pub reads-back : (s : List ℕ) → Stands s 0 (fileOf b) (length s) → designOf s ≡ got b (length s)
-  unfolding designOf headFrom fileOf and-then
+  unfolding designOf headFrom fileOf headBytes bodyBytes linkedBytes and-then
   reads-back s x =
       let v = encode 1 in
       let d = encode (b .deadline .0) in
@@ -315,7 +315,7 @@ module _ (b : Board) (w : WellFormed b) where
   parts-size = row-size (λ p. curveBytes (curveAt b p)) 22 (b .parts) (λ i h. curve-size-le (curveAt b i) (w .curves i h))
 
   pub file-size-le : length (fileOf b) ≤ 1926
-  unfolding fileOf
+  unfolding fileOf headBytes bodyBytes linkedBytes
   file-size-le =
       let d = encode (b .deadline .0) in
       let p = encode (b .parts) in

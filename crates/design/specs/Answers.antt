@@ -1,11 +1,6 @@
--- What the reader and the writer of a design file hand back.
+-- What the reader of a design file hands back.
 -- Assumes nothing.
-use Prim.Native.Nat.{ℕ}
-use mathlib.Core.List.{List, _++_}
-use lib.Dec.{ltb}
-use lib.ListN.{length, drop}
-use Rattle.base.specs.Pick.{pick}
-use Rattle.refusal.specs.declared.Why.the-variants.{BufferShort}
+use mathlib.Core.List.{List}
 use Rattle.refusal.specs.declared.Answer.{Answer}
 use Rattle.refusal.specs.declared.Answer.the-variants.{Done, Refused}
 use Rattle.curve.specs.declared.Curve.{Curve}
@@ -18,7 +13,6 @@ use Rattle.design.specs.declared.PartsRead.{PartsRead}
 use Rattle.design.specs.declared.LinkRead.{LinkRead}
 use Rattle.design.specs.declared.LinksRead.{LinksRead}
 use Rattle.design.specs.declared.DesignRead.{DesignRead}
-use Rattle.design.specs.Design.{fileOf}
 
 -- at a fault no curves, no links, no board
 abbrev pub partsStopped : Answer → PartsRead
@@ -48,11 +42,3 @@ stopped a = record { answer = a; board = noBoard }
 abbrev pub designRead : Parse Board → DesignRead
 designRead (got b next) = record { answer = Done; board = b }
 designRead (stop why place) = stopped (Refused why place)
-
--- 16: "buffer shorter than the file to write", place: "bytes needed"
-unfoldable pub writeOf : Board → List ℕ → Answer
-writeOf b buf = pick (ltb (length buf) (length (fileOf b))) (Refused BufferShort (length (fileOf b))) Done
-
--- a refusal changes no buffer; "when accepted it leaves the buffer past the file as it was"
-unfoldable pub bufferOf : Board → List ℕ → List ℕ
-bufferOf b buf = pick (ltb (length buf) (length (fileOf b))) buf (fileOf b ++ drop (length (fileOf b)) buf)

@@ -102,10 +102,14 @@ partsBytes b k = inRow (λ p. curveBytes (curveAt b p)) k
 unfoldable pub linksBytes : Board → ℕ → List ℕ
 linksBytes b k = inRow (λ l. linkBytes (linkAt b l)) k
 
+unfoldable pub linkedBytes : Board → List ℕ
+linkedBytes b = encode (b .links) ++ linksBytes b (b .links)
+
+unfoldable pub bodyBytes : Board → List ℕ
+bodyBytes b = partsBytes b (b .parts) ++ linkedBytes b
+
+unfoldable pub headBytes : Board → List ℕ
+headBytes b = encode (b .deadline .0) ++ (encode (b .parts) ++ bodyBytes b)
+
 unfoldable pub fileOf : Board → List ℕ
-fileOf b =
-    encode 1 ++
-    (encode (b .deadline .0) ++
-    (encode (b .parts) ++
-    (partsBytes b (b .parts) ++
-    (encode (b .links) ++ linksBytes b (b .links)))))
+fileOf b = encode 1 ++ headBytes b

@@ -144,9 +144,11 @@ fn read_link(s: &[u8], parts: usize, l: usize, before: Link, at: usize) -> LinkR
         } => match fields::field(s, to_at, 0, last) {
             Read::Refused { why, place } => link_refused(why, place),
             Read::Number { value: to, next } => {
+                let first = from as usize;
+                let second = to as usize;
                 let link = Link {
-                    from: from as usize,
-                    to: to as usize,
+                    from: first,
+                    to: second,
                 };
                 if !is_above(l, before, link) {
                     return link_refused(Why::LinkNotAbove, at);

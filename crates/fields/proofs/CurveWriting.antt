@@ -9,9 +9,10 @@ use Rattle.base.proofs.Cases.{finished}
 use Rattle.groups.specs.Number.{encode}
 use Rattle.curve.specs.declared.Run.{Run}
 use Rattle.curve.specs.declared.Curve.{Curve}
-use Rattle.curve.specs.Curve.{runAt}
+use Rattle.curve.specs.Curve.{runAt, Good}
 use Rattle.fields.specs.Writing.{Wrote, inRow}
 use Rattle.fields.specs.CurveFile.{runBytes, runsBytes, curveBytes}
+use Rattle.fields.proofs.CurveFileLaws.{curve-size-le}
 use Rattle.fields.proofs.WritingLaws.{wrote-more, first-room, then-room, row-none, row-counted, row-room, row-wrote-none, row-wrote-more, row-ended}
 
 -- ---- sizes
@@ -97,3 +98,6 @@ module _ (c : Curve) (buf : List ℕ) (at : ℕ) (room : at + length (curveBytes
 
 pub finished-size : (c : Curve) (i size : ℕ) → size ≡ length (runsBytes c i) → i ≤ c .count → c .count ≤ i → size ≡ length (runsBytes c (c .count))
 finished-size c i size is l h = finished (λ (k : ℕ). length (runsBytes c k)) l h is
+
+pub counted-to : (c : Curve) (f p n r : ℕ) → Good c → f ≡ length (encode (c .fastest .0)) → p ≡ length (encode (c .power .0)) → n ≡ length (encode (c .count)) → r ≡ length (runsBytes c (c .count)) → f + p + n + r ≤ 22
+counted-to c f p n r good fastest power count runs = rw (curve-counted c f p n r fastest power count runs) (curve-size-le c good)

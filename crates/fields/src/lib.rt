@@ -224,7 +224,7 @@ fn runs_size(c: Curve) -> usize
 // The bytes that a curve takes.
 pub fn curve_size(c: Curve) -> usize
     requires { ⌜ Good c ⌝ }
-    ensures { λ r. ⌜ r ≡ length (curveBytes c) ⌝ }
+    ensures { λ r. ⌜ (r ≡ length (curveBytes c)) × (r ≤ 22) ⌝ }
 {
     size(c.fastest.0) + size(c.power.0) + size(c.count as u32) + runs_size(c)
 }

@@ -8,75 +8,75 @@ use Rattle.design.proofs.is_above.Reads as is-above-reads
 use Rattle.design.proofs.link_refused.Reads as link-refused-reads
 use Rattle.fields.proofs.field.Reads as field-reads
 
--- src/lib.rt:137:17
+-- src/lib.rt:138:17
 sub-last : tie.Need-sub-last
 sub-last c = search needs
 
--- src/lib.rt:137:16
+-- src/lib.rt:138:16
 cast-last : tie.Need-cast-last
 cast-last c = search needs
 
--- src/lib.rt:138:11
+-- src/lib.rt:139:11
 field-requires : tie.Need-field-requires
 field-requires c κs = search needs
 
--- src/lib.rt:139:25
+-- src/lib.rt:140:25
 enum-known-why : tie.Need-enum-known-why
 enum-known-why c = search needs
 
--- src/lib.rt:139:41
+-- src/lib.rt:140:41
 link-refused-requires : tie.Need-link-refused-requires
 link-refused-requires c κs = search needs
 
--- src/lib.rt:141:20
+-- src/lib.rt:142:20
 enum-known-from : tie.Need-enum-known-from
 enum-known-from c = search needs
 
--- src/lib.rt:143:20
+-- src/lib.rt:144:20
 field-requires-2 : tie.Need-field-requires-2
 field-requires-2 c κs = search needs
 
--- src/lib.rt:144:29
+-- src/lib.rt:145:29
 enum-known-why-2 : tie.Need-enum-known-why-2
 enum-known-why-2 c = search needs
 
--- src/lib.rt:144:45
+-- src/lib.rt:145:45
 link-refused-requires-2 : tie.Need-link-refused-requires-2
 link-refused-requires-2 c κs = search needs
 
--- src/lib.rt:145:35
+-- src/lib.rt:146:35
 enum-known-to : tie.Need-enum-known-to
 enum-known-to c = search needs
 
--- src/lib.rt:147:27
-cast-t21 : tie.Need-cast-t21
-cast-t21 c = search needs
+-- src/lib.rt:147:29
+cast-first : tie.Need-cast-first
+cast-first c = search needs
 
--- src/lib.rt:148:25
-cast-t22 : tie.Need-cast-t22
-cast-t22 c = search needs
+-- src/lib.rt:148:30
+cast-second : tie.Need-cast-second
+cast-second c = search needs
 
--- src/lib.rt:150:21
+-- src/lib.rt:153:21
 is-above-requires : tie.Need-is-above-requires
 is-above-requires c κs = search needs
 
--- src/lib.rt:151:21
+-- src/lib.rt:154:21
 link-refused-requires-3 : tie.Need-link-refused-requires-3
 link-refused-requires-3 c κs = search needs
 
--- src/lib.rt:151:21
+-- src/lib.rt:154:21
 returns : tie.Need-returns
 returns c = search (link-no-from, link-no-to, link-not-above, link-read)
 
--- src/lib.rt:133:1
+-- src/lib.rt:134:1
 returns-2 : tie.Need-returns-2
 returns-2 c = search (link-no-from, link-no-to, link-not-above, link-read)
 
--- src/lib.rt:133:1
+-- src/lib.rt:134:1
 returns-3 : tie.Need-returns-3
 returns-3 c = search (link-no-from, link-no-to, link-not-above, link-read)
 
--- src/lib.rt:133:1
+-- src/lib.rt:134:1
 returns-4 : tie.Need-returns-4
 returns-4 c = search (link-no-from, link-no-to, link-not-above, link-read)
 
@@ -94,8 +94,8 @@ read-link-spec =
     enum-known-why-2
     link-refused-requires-2
     enum-known-to
-    cast-t21
-    cast-t22
+    cast-first
+    cast-second
     is-above-requires
     link-refused-requires-3
     returns

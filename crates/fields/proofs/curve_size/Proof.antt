@@ -1,4 +1,4 @@
-use Rattle.fields.proofs.CurveWriting.{curve-counted}
+use Rattle.fields.proofs.CurveWriting.{curve-counted, counted-to}
 use borrow.Author.Needs.{needs}
 use Rattle.fields.proofs.curve_size.Statement.{statement}
 use Rattle.fields.proofs.curve_size.Tie as tie
@@ -41,7 +41,7 @@ add-result-3 c = search needs
 
 -- src/lib.rt:227:1
 returns : tie.Need-returns
-returns c = search (curve-counted)
+returns c = (search (curve-counted), search (counted-to))
 
 pub curve-size-spec : {M : Type 1} → statement M
 curve-size-spec =

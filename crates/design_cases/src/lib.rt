@@ -1,0 +1,1 @@
+// The boards of document 01 as files: laws alone, no code.

@@ -1,0 +1,35 @@
+use Rattle.design_write.proofs.Ways.{link-counted}
+use borrow.Author.Needs.{needs}
+use Rattle.design_write.proofs.link_size.Statement.{statement}
+use Rattle.design_write.proofs.link_size.Tie as tie
+use Rattle.design_write.proofs.link_size.Reads as reads
+use Rattle.design_write.proofs.link_size.Lts as lts
+use Rattle.fields.proofs.size.Reads as size-reads
+
+-- src/lib.rt:18:18
+cast-size : tie.Need-cast-size
+cast-size c = search needs
+
+-- src/lib.rt:18:5
+size-requires : tie.Need-size-requires
+size-requires c κs = search needs
+
+-- src/lib.rt:18:51
+cast-size-2 : tie.Need-cast-size-2
+cast-size-2 c = search needs
+
+-- src/lib.rt:18:38
+size-requires-2 : tie.Need-size-requires-2
+size-requires-2 c κs = search needs
+
+-- src/lib.rt:18:5
+add-result : tie.Need-add-result
+add-result c = search needs
+
+-- src/lib.rt:14:1
+returns : tie.Need-returns
+returns c = (search (link-counted), search needs)
+
+pub link-size-spec : {M : Type 1} → statement M
+link-size-spec =
+    tie.close (tie.spec cast-size size-requires cast-size-2 size-requires-2 add-result returns)

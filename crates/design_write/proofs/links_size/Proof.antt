@@ -1,0 +1,73 @@
+use mathlib.Core.Path.{_≡_}
+use Prim.Native.Nat.{_≤_, _-_, _*_}
+use lib.ListN.{length}
+use Rattle.design.specs.Design.{linksBytes}
+use Rattle.fields.proofs.WritingLaws.{row-none, row-counted}
+use Rattle.design_write.proofs.Ways.{from-below, to-below, row-counted-all}
+use borrow.Author.Needs.{needs}
+use Rattle.design_write.proofs.links_size.Statement.{statement}
+use Rattle.design_write.proofs.links_size.Tie as tie
+use Rattle.design_write.proofs.links_size.Reads as reads
+use Rattle.design_write.proofs.links_size.Lts as lts
+use Rattle.design_write.proofs.link_size.Reads as link-size-reads
+
+abbrev Inv-loop : tie.InvT-loop
+Inv-loop b links bytes₀ l₀ bytes l = (l ≤ links) × (bytes ≡ length (linksBytes b l)) × (bytes ≤ 6 * l)
+
+abbrev μ-loop : tie.MeasureT-loop
+μ-loop b links bytes₀ l₀ bytes l = links - l
+
+-- src/lib.rt:28:5
+loop-holds : tie.Need-loop-holds Inv-loop μ-loop
+unfolding linksBytes
+loop-holds c = (search needs, row-none _, search needs)
+
+-- src/lib.rt:29:20
+mul-link : tie.Need-mul-link Inv-loop μ-loop
+mul-link c = search needs
+
+-- src/lib.rt:29:20
+element-copy-out-link : tie.Need-element-copy-out-link Inv-loop μ-loop
+element-copy-out-link c = search needs
+
+-- src/lib.rt:30:25
+link-size-requires : tie.Need-link-size-requires Inv-loop μ-loop
+link-size-requires c κs = (search (from-below), search (to-below))
+
+-- src/lib.rt:30:17
+add-bytes : tie.Need-add-bytes Inv-loop μ-loop
+add-bytes c = search needs
+
+-- src/lib.rt:31:13
+add-l : tie.Need-add-l Inv-loop μ-loop
+add-l c = search needs
+
+-- src/lib.rt:28:5
+loop-less : tie.Need-loop-less Inv-loop μ-loop
+loop-less c = search needs
+
+-- src/lib.rt:28:5
+loop-again : tie.Need-loop-again Inv-loop μ-loop
+unfolding linksBytes
+loop-again c = (search needs, search (row-counted), search needs)
+
+-- src/lib.rt:21:1
+returns : tie.Need-returns Inv-loop μ-loop
+unfolding linksBytes
+returns c = (search (row-counted-all), search needs)
+
+pub links-size-spec : {M : Type 1} → statement M
+links-size-spec =
+    tie.close
+    (tie.spec
+    Inv-loop
+    μ-loop
+    loop-holds
+    mul-link
+    element-copy-out-link
+    link-size-requires
+    add-bytes
+    add-l
+    loop-less
+    loop-again
+    returns)
