@@ -46,7 +46,7 @@ module _ (d : Desk) (t : Tally) (r : Loaded) where
   -- where no refusal applies, the load is accepted;
   pub load-accepts : (s : List ℕ) (b : Board) → Describes s b → Judges b → LoadSaid d s t r → Accepted b r
   load-accepts s b file ok said =
-      let j : LoadJudged b d t r = subst (λ (p : Parse Board). LoadParsed p d t r) (file .read) said in
+      let j : LoadJudged b d t r = subst (λ (p : Parse Board). LoadParsed p d t r) (file .read) (said .parsed) in
       judged-accepted b (judged-done b ok j) j
 
   -- where it is accepted, none applied, and the board is the file's
@@ -68,7 +68,7 @@ module _ (d : Desk) (t : Tally) (r : Loaded) where
       }
 
   pub load-accepted : (s : List ℕ) → LoadSaid d s t r → r .answer ≡ Done → Came s
-  load-accepted s said done = parsed-came s (designOf s) refl said done
+  load-accepted s said done = parsed-came s (designOf s) refl (said .parsed) done
 
   -- every board without a loop that has any budget at all is loaded from the file that is written of it
   pub written-loads : (b : Board) → Judges b → LoadSaid d (fileOf b) t r → Accepted b r

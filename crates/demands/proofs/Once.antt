@@ -77,7 +77,7 @@ module _ (d : Desk) (t : Tally) where
   load-parsed-once (got b next) well r r′ j j′ = load-judged-once b (well b next refl) r r′ j j′
 
   pub load-once : (s : List ℕ) (r r′ : Loaded) → LoadSaid d s t r → LoadSaid d s t r′ → SameLoaded r r′
-  load-once s r r′ said said′ = load-parsed-once (designOf s) (design-well-formed s) r r′ said said′
+  load-once s r r′ said said′ = load-parsed-once (designOf s) (design-well-formed s) r r′ (said .parsed) (said′ .parsed)
 
   -- a refused load changes nothing
   load-judged-kept : (b : Board) (r : Loaded) {why : Why} {place : ℕ} → LoadJudged b d t r → r .answer ≡ Refused why place → (r .desk ≡ d) × (r .tally ≡ t)
@@ -91,7 +91,7 @@ module _ (d : Desk) (t : Tally) where
 
   pub load-refused-stays :
       (s : List ℕ) (r : Loaded) {why : Why} {place : ℕ} → LoadSaid d s t r → r .answer ≡ Refused why place → (r .desk ≡ d) × (r .tally ≡ t)
-  load-refused-stays s r said e = load-parsed-kept (designOf s) r said e
+  load-refused-stays s r said e = load-parsed-kept (designOf s) r (said .parsed) e
 
 -- ---- orders
 same-ordered : (r r′ : Ordered) → r ≡ r′ → SameOrdered r r′
@@ -148,7 +148,7 @@ module _ (d : Desk) (t : Tally) where
   order-parsed-once so (got o took) orderly r r′ j j′ = order-tried-once so o (orderly o took refl) took r r′ (triedOf d t o) refl j j′
 
   pub order-once : Standing d → (s : List ℕ) (r r′ : Ordered) → OrderSaid d s t r → OrderSaid d s t r′ → SameOrdered r r′
-  order-once so s r r′ said said′ = order-parsed-once so (orderOf s) (order-orderly s) r r′ said said′
+  order-once so s r r′ said said′ = order-parsed-once so (orderOf s) (order-orderly s) r r′ (said .parsed) (said′ .parsed)
 
   -- a refused order changes the tally at most
   order-judged-kept : (b : Board) (took : ℕ) (r : Ordered) {why : Why} {place : ℕ} → OrderJudged b d t took r → r .answer ≡ Refused why place → r .desk ≡ d
@@ -165,4 +165,4 @@ module _ (d : Desk) (t : Tally) where
   order-parsed-kept (got o took) r j e = order-tried-kept (triedOf d t o) o took r j e
 
   pub order-refused-stays : (s : List ℕ) (r : Ordered) {why : Why} {place : ℕ} → OrderSaid d s t r → r .answer ≡ Refused why place → r .desk ≡ d
-  order-refused-stays s r said e = order-parsed-kept (orderOf s) r said e
+  order-refused-stays s r said e = order-parsed-kept (orderOf s) r (said .parsed) e

@@ -61,12 +61,12 @@ module _ (d : Desk) (h : Holding d) (t : Tally) (r : Ordered) where
   parsed-leaves (got o took) j = tried-leaves (triedOf d t o) o took j
 
   pub order-leaves : (s : List ℕ) → OrderSaid d s t r → Leaves t r
-  order-leaves s said = parsed-leaves (orderOf s) said
+  order-leaves s said = parsed-leaves (orderOf s) (said .parsed)
 
 -- ---- any list of orders
 pub reached-holding : {d : Desk} {t : Tally} {answers : List Answer} → Reached d t answers → Holding d
-reached-holding (loaded d s t r said done) = load-accepted d t r s said done .so .holding
-reached-holding (ordered {d = d} {t = t} before s r said) = order-leaves d (reached-holding before) t r s said .holding
+reached-holding (loaded {d = d} {s = s} {t = t} {r = r} said done) = load-accepted d t r s said done .so .holding
+reached-holding (ordered {d = d} {t = t} {s = s} {r = r} before said) = order-leaves d (reached-holding before) t r s said .holding
 
 -- "After any list of orders the held budget is the one that demand 2 gives the board as it then stands."
 pub reached-budget : {d : Desk} {t : Tally} {answers : List Answer} → Reached d t answers → Holds (d .board) (d .budget)
@@ -86,8 +86,8 @@ unfolding takenIn refusedIn
 none-yet t is = rw is (record { taken = refl; refused = refl })
 
 pub reached-tally : {d : Desk} {t : Tally} {answers : List Answer} → Reached d t answers → Tallied t answers
-reached-tally (loaded d s t r said done) = none-yet (r .tally) (load-accepted d t r s said done .so .tally)
-reached-tally (ordered {d = d} {t = t} {answers = answers} before s r said) =
+reached-tally (loaded {d = d} {s = s} {t = t} {r = r} said done) = none-yet (r .tally) (load-accepted d t r s said done .so .tally)
+reached-tally (ordered {d = d} {t = t} {answers = answers} {s = s} {r = r} before said) =
     one-more t (r .tally) (r .answer) answers (reached-tally before) (order-leaves d (reached-holding before) t r s said .counted)
 
 -- ---- a desk that holds nothing, or what it should, stays so
@@ -96,7 +96,7 @@ module _ (d : Desk) (t : Tally) (so : Standing d) where
   kept-standing e = rw e so
 
   pub load-standing : (s : List ℕ) (r : Loaded) → LoadSaid d s t r → Standing (r .desk)
-  load-standing s r said = parsed (designOf s) said
+  load-standing s r said = parsed (designOf s) (said .parsed)
     where
       judged : (b : Board) → LoadJudged b d t r → Standing (r .desk)
       judged b (load.refused v is) = kept-standing (ap (λ (x : Loaded). x .desk) is)
@@ -107,7 +107,7 @@ module _ (d : Desk) (t : Tally) (so : Standing d) where
       parsed (got b next) j = judged b j
 
   pub order-standing : (s : List ℕ) (r : Ordered) → OrderSaid d s t r → Standing (r .desk)
-  order-standing s r said = parsed (orderOf s) said
+  order-standing s r said = parsed (orderOf s) (said .parsed)
     where
       judged : (b : Board) (took : ℕ) → OrderJudged b d t took r → Standing (r .desk)
       judged b took (order.refused v is) = kept-standing (ap (λ (x : Ordered). x .desk) is)

@@ -64,7 +64,7 @@ module _ (d : Desk) (t : Tally) (o : Order) (r : Ordered) where
 
   module _ (s : List ℕ) (reads : Reads s o) where
     tried : OrderSaid d s t r → OrderTried (triedOf d t o) d t o (reads .took) r
-    tried said = subst (λ (p : Parse Order). OrderParsed p d t r) (reads .read) said
+    tried said = subst (λ (p : Parse Order). OrderParsed p d t r) (reads .read) (said .parsed)
 
     pub makes-stepped : Makes d s t r → Stepped d t o r
     makes-stepped m = tried-stepped (triedOf d t o) (reads .took) refl (m .done) (tried (m .said))

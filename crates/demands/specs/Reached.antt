@@ -15,9 +15,9 @@ use Rattle.desk.specs.Order.{OrderSaid, counts}
 
 -- a desk and its tally, with the answers to the orders since the load, the last one first
 pub data Reached : Desk → Tally → List Answer → Type 0 where
-  loaded : (d : Desk) (s : List ℕ) (t : Tally) (r : Loaded) → LoadSaid d s t r → r .answer ≡ Done → Reached (r .desk) (r .tally) []
+  loaded : {d : Desk} {s : List ℕ} {t : Tally} {r : Loaded} → LoadSaid d s t r → r .answer ≡ Done → Reached (r .desk) (r .tally) []
   ordered :
-      {d : Desk} {t : Tally} {answers : List Answer} → Reached d t answers → (s : List ℕ) (r : Ordered) → OrderSaid d s t r →
+      {d : Desk} {t : Tally} {answers : List Answer} {s : List ℕ} {r : Ordered} → Reached d t answers → OrderSaid d s t r →
       Reached (r .desk) (r .tally) (r .answer ∷ answers)
 
 -- "the tally counts an order refused by 7, 9, 10, 13, 14, 15 or 17", and every order that is made

@@ -8,7 +8,7 @@ use Rattle.refusal.specs.declared.Why.{Why}
 use Rattle.refusal.specs.declared.Why.the-variants.{NoBoard}
 use Rattle.refusal.specs.declared.Answer.{Answer}
 use Rattle.refusal.specs.declared.Answer.the-variants.{Refused}
-use Rattle.design.specs.Answers.{writeOf, bufferOf}
+use Rattle.design_write.specs.Write.{writeOf, bufferOf}
 use Rattle.desk.specs.declared.Desk.{Desk}
 use Rattle.desk.specs.Held.{Standing}
 

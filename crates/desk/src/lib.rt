@@ -20,6 +20,7 @@ ghost use Rattle.orders.specs.Order.{Orderly};
 ghost use Rattle.desk.specs.Empty.{noBudget, noAdvice, emptyDesk};
 ghost use Rattle.desk.specs.Load.{LoadSaid};
 ghost use Rattle.desk.specs.Order.{changedOf, placeTried, counts, refusedTally, OrderJudged, OrderGiven};
+ghost use Rattle.desk.specs.Write.{WriteGiven};
 ghost use Rattle.desk.specs.Steps.{Timely, JudgedOf, SettledOf, BoardHeld, Countable, MayMake, TriedSaid, OrderRefused, Attempted};
 
 // Orders counted since the last accepted load.
@@ -437,4 +438,16 @@ pub fn order(d: Desk, bytes: &[u8], t: Tally) -> Ordered
             attempt(d, t, o, read.took)
         }
     }
+}
+
+// ---- the file of the board that is held
+// Writes the board's file at the front of a buffer. A refused write leaves the buffer as it was.
+pub fn write(d: Desk, buf: &mut [u8]) -> Answer
+    ensures { λ r. ⌜ WriteGiven d (now (buf .entry)) r (now (buf .exit)) ⌝ }
+{
+    if !holds_board(d) {
+        return no(Why::NoBoard, 0);
+    }
+    let b = d.board;
+    design_write::write_design(b, buf)
 }
