@@ -28,10 +28,10 @@ write-stays : (b : Board) (buf : List ℕ) (why : Why) (place : ℕ) → writeOf
 unfolding writeOf bufferOf
 write-stays b buf why place e = short-stays _ buf _ _ why _ place e
 
-module _ (d : Desk) (buf : List ℕ) (r : Answer) (has : Bool) (held : BoardHeld d has) where
-  pub write-formed : not has ≡ false → WellFormed (d .board)
-  write-formed e = held .yes (not-false has e) .1
+pub write-formed : (d : Desk) (has : Bool) → BoardHeld d has → not has ≡ false → WellFormed (d .board)
+write-formed d has held e = held .yes (not-false has e) .1
 
+module _ (d : Desk) (buf : List ℕ) (r : Answer) (has : Bool) (held : BoardHeld d has) where
   pub write-none : not has ≡ true → r ≡ Refused NoBoard 0 → WriteGiven d buf r buf
   unfolding writtenOf afterWrite pick
   write-none e is = record {

@@ -1,3 +1,4 @@
+use Rattle.desk.proofs.Writing.{write-formed, write-none, write-file}
 use borrow.Author.Needs.{needs}
 use Rattle.desk.proofs.write.Statement.{statement}
 use Rattle.desk.proofs.write.Tie as tie
@@ -17,11 +18,11 @@ no-requires c κs = search needs
 
 -- src/lib.rt:449:9
 returns : tie.Need-returns
-returns c = search needs
+returns c = search (write-none)
 
 -- src/lib.rt:452:5
 write-design-requires : tie.Need-write-design-requires
-write-design-requires c κs = search needs
+write-design-requires c κs = search (write-formed)
 
 -- src/lib.rt:445:1
 same-length : tie.Need-same-length
@@ -29,7 +30,7 @@ same-length c = search needs
 
 -- src/lib.rt:445:1
 returns-2 : tie.Need-returns-2
-returns-2 c = search needs
+returns-2 c = search (write-file)
 
 pub write-spec : {M : Type 1} → statement M
 write-spec =
