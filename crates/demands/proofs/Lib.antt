@@ -1,0 +1,8 @@
+pub mod VerdictLaws
+pub mod Tried
+pub mod Once
+pub mod Steps
+pub mod LoadLaws
+pub mod ReachedLaws
+pub mod Commute
+pub mod Tighten

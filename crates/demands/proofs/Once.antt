@@ -1,0 +1,168 @@
+-- Two results that one input allows are the same but for the advice, and a refused call leaves what is held as it was.
+-- Assumes nothing.
+use mathlib.Core.Path.{_≡_, refl, sym, ap, _∙_}
+use mathlib.Core.Bool.{Bool, true, false}
+use mathlib.Core.List.{List, []}
+use Prim.Native.Nat.{ℕ}
+use native.Mathlib.Omega.{arith}
+use Rattle.refusal.specs.declared.Why.{Why}
+use Rattle.refusal.specs.declared.Answer.{Answer}
+use Rattle.refusal.specs.declared.Answer.the-variants.{Done, Refused}
+use Rattle.board.specs.declared.Board.{Board}
+use Rattle.board.specs.Board.{WellFormed}
+use Rattle.slow.specs.declared.Trail.{Trail}
+use Rattle.slow.specs.Walk.{trailOf}
+use Rattle.budget.specs.declared.Budget.{Budget}
+use Rattle.budget.specs.Budget.{Holds}
+use Rattle.budget.proofs.BudgetLaws.{holds-once}
+use Rattle.fields.specs.Parse.{Parse, got, stop}
+use Rattle.design.specs.Design.{designOf}
+use Rattle.design.proofs.DesignLaws.{design-well-formed}
+use Rattle.orders.specs.declared.Order.{Order}
+use Rattle.orders.specs.Order.{Orderly, orderOf}
+use Rattle.orders.proofs.OrderLaws.{order-orderly}
+use Rattle.desk.specs.declared.Tally.{Tally}
+use Rattle.desk.specs.declared.Desk.{Desk}
+use Rattle.desk.specs.declared.Loaded.{Loaded}
+use Rattle.desk.specs.declared.Ordered.{Ordered}
+use Rattle.desk.specs.Held.{Holding, Standing, empty, holding, Verdict}
+use Rattle.desk.specs.Load.{loadRefused, LoadJudged, LoadParsed, LoadSaid}
+use Rattle.desk.specs.Order.{changedOf, triedOf, refusedTally, orderRefused, OrderJudged, OrderTried, OrderParsed, OrderSaid}
+use Rattle.desk.specs.Load as load
+use Rattle.desk.specs.Order as order
+use Rattle.demands.specs.Same.{SameDesk, SameLoaded, SameOrdered}
+use Rattle.demands.proofs.VerdictLaws.{SameVerdict, verdict-once}
+use Rattle.desk.proofs.Tried.{never, Passed, tried-passed, tried-fits, changed-well}
+
+-- ---- desks with one board
+pub same-desk : (d d′ : Desk) → d ≡ d′ → SameDesk d d′
+same-desk d d′ e = record { held = ap (λ (x : Desk). x .held) e; board = ap (λ (x : Desk). x .board) e; budget = ap (λ (x : Desk). x .budget) e }
+
+pub one-board : (d d′ : Desk) → Holding d → Holding d′ → d .board ≡ d′ .board → SameDesk d d′
+one-board d d′ h h′ e =
+    let other : Holds (d .board) (d′ .budget) = rw e (h′ .kept .holds) in
+    record {
+      held = h .held ∙ sym (h′ .held);
+      board = e;
+      budget = holds-once (d .board) (h .kept .formed) (d .budget) (d′ .budget) (h .kept .holds) other;
+    }
+
+-- ---- loads
+same-loaded : (r r′ : Loaded) → r ≡ r′ → SameLoaded r r′
+same-loaded r r′ e = record {
+  answer = ap (λ (x : Loaded). x .answer) e;
+  path = ap (λ (x : Loaded). x .path) e;
+  desk = same-desk (r .desk) (r′ .desk) (ap (λ (x : Loaded). x .desk) e);
+  tally = ap (λ (x : Loaded). x .tally) e;
+}
+
+module _ (d : Desk) (t : Tally) where
+  load-judged-once : (b : Board) → WellFormed b → (r r′ : Loaded) → LoadJudged b d t r → LoadJudged b d t r′ → SameLoaded r r′
+  load-judged-once b w r r′ (load.refused v is) (load.refused v′ is′) =
+      let one = verdict-once b w v v′ in
+      same-loaded r r′ (is ∙ rw (one .answer, one .listed) (sym is′))
+  load-judged-once b w r r′ (load.refused v is) (load.accepted v′ a′ p′ b′ h′ t′) = never (verdict-once b w v v′ .answer)
+  load-judged-once b w r r′ (load.accepted v a p bo h ta) (load.refused v′ is′) = never (verdict-once b w v′ v .answer)
+  load-judged-once b w r r′ (load.accepted v a p bo h ta) (load.accepted v′ a′ p′ bo′ h′ ta′) = record {
+    answer = a ∙ sym a′;
+    path = p ∙ sym p′;
+    desk = one-board (r .desk) (r′ .desk) h h′ (bo ∙ sym bo′);
+    tally = ta ∙ sym ta′;
+  }
+
+  load-parsed-once :
+      (p : Parse Board) → ((b : Board) (next : ℕ) → p ≡ got b next → WellFormed b) → (r r′ : Loaded) → LoadParsed p d t r →
+      LoadParsed p d t r′ → SameLoaded r r′
+  load-parsed-once (stop why place) well r r′ is is′ = same-loaded r r′ (is ∙ sym is′)
+  load-parsed-once (got b next) well r r′ j j′ = load-judged-once b (well b next refl) r r′ j j′
+
+  pub load-once : (s : List ℕ) (r r′ : Loaded) → LoadSaid d s t r → LoadSaid d s t r′ → SameLoaded r r′
+  load-once s r r′ said said′ = load-parsed-once (designOf s) (design-well-formed s) r r′ (said .parsed) (said′ .parsed)
+
+  -- a refused load changes nothing
+  load-judged-kept : (b : Board) (r : Loaded) {why : Why} {place : ℕ} → LoadJudged b d t r → r .answer ≡ Refused why place → (r .desk ≡ d) × (r .tally ≡ t)
+  load-judged-kept b r (load.refused v is) e = (ap (λ (x : Loaded). x .desk) is, ap (λ (x : Loaded). x .tally) is)
+  load-judged-kept b r (load.accepted v a p bo h ta) e = never (sym e ∙ a)
+
+  load-parsed-kept :
+      (p : Parse Board) (r : Loaded) {why : Why} {place : ℕ} → LoadParsed p d t r → r .answer ≡ Refused why place → (r .desk ≡ d) × (r .tally ≡ t)
+  load-parsed-kept (stop why place) r is e = (ap (λ (x : Loaded). x .desk) is, ap (λ (x : Loaded). x .tally) is)
+  load-parsed-kept (got b next) r j e = load-judged-kept b r j e
+
+  pub load-refused-stays :
+      (s : List ℕ) (r : Loaded) {why : Why} {place : ℕ} → LoadSaid d s t r → r .answer ≡ Refused why place → (r .desk ≡ d) × (r .tally ≡ t)
+  load-refused-stays s r said e = load-parsed-kept (designOf s) r (said .parsed) e
+
+-- ---- orders
+same-ordered : (r r′ : Ordered) → r ≡ r′ → SameOrdered r r′
+same-ordered r r′ e = record {
+  answer = ap (λ (x : Ordered). x .answer) e;
+  took = ap (λ (x : Ordered). x .took) e;
+  path = ap (λ (x : Ordered). x .path) e;
+  desk = same-desk (r .desk) (r′ .desk) (ap (λ (x : Ordered). x .desk) e);
+  tally = ap (λ (x : Ordered). x .tally) e;
+}
+
+refused-same :
+    (d : Desk) (t : Tally) (took : ℕ) {why why′ : Why} {place place′ : ℕ} {path path′ : List ℕ} → Refused why place ≡ Refused why′ place′ → path ≡ path′ →
+    orderRefused why place took path d t ≡ orderRefused why′ place′ took path′ d t
+refused-same d t took {why} {why′} e listed =
+    let reason : why ≡ why′ = cc in
+    rw (e, listed, reason)
+
+pub standing-holding : {d : Desk} → Standing d → d .held ≡ true → Holding d
+standing-holding (empty e) h = absurd (let z : _≡_ {A = ℕ} 0 1 = cc in omega arith)
+standing-holding (holding h) e = h
+
+module _ (d : Desk) (t : Tally) where
+  order-judged-once : (b : Board) → WellFormed b → (took : ℕ) (r r′ : Ordered) → OrderJudged b d t took r → OrderJudged b d t took r′ → SameOrdered r r′
+  order-judged-once b w took r r′ (order.refused v is) (order.refused v′ is′) =
+      let one = verdict-once b w v v′ in
+      same-ordered r r′ (is ∙ refused-same d t took (one .answer) (one .listed) ∙ sym is′)
+  order-judged-once b w took r r′ (order.refused v is) (order.made v′ a′ k′ p′ b′ h′ t′) = never (verdict-once b w v v′ .answer)
+  order-judged-once b w took r r′ (order.made v a k p bo h ta) (order.refused v′ is′) = never (verdict-once b w v′ v .answer)
+  order-judged-once b w took r r′ (order.made v a k p bo h ta) (order.made v′ a′ k′ p′ bo′ h′ ta′) = record {
+    answer = a ∙ sym a′;
+    took = k ∙ sym k′;
+    path = p ∙ sym p′;
+    desk = one-board (r .desk) (r′ .desk) h h′ (bo ∙ sym bo′);
+    tally = ta ∙ sym ta′;
+  }
+
+  module _ (so : Standing d) (o : Order) (orderly : Orderly o) (took : ℕ) (r r′ : Ordered) where
+    -- the board as it would be is well formed where it is judged
+    pub judged-well : triedOf d t o ≡ Done → WellFormed (changedOf (d .board) o)
+    judged-well e =
+        let p = tried-passed d t o e in
+        let w = standing-holding so (p .held) .kept .formed in
+        changed-well (d .board) w o (tried-fits (d .board) w (o .change) (p .place)) orderly
+
+    order-tried-once : (a : Answer) → triedOf d t o ≡ a → OrderTried a d t o took r → OrderTried a d t o took r′ → SameOrdered r r′
+    order-tried-once (Refused why place) e is is′ = same-ordered r r′ (is ∙ sym is′)
+    order-tried-once Done e j j′ = order-judged-once (changedOf (d .board) o) (judged-well e) took r r′ j j′
+
+  order-parsed-once :
+      Standing d → (p : Parse Order) → ((o : Order) (took : ℕ) → p ≡ got o took → Orderly o) → (r r′ : Ordered) → OrderParsed p d t r →
+      OrderParsed p d t r′ → SameOrdered r r′
+  order-parsed-once so (stop why place) orderly r r′ is is′ = same-ordered r r′ (is ∙ sym is′)
+  order-parsed-once so (got o took) orderly r r′ j j′ = order-tried-once so o (orderly o took refl) took r r′ (triedOf d t o) refl j j′
+
+  pub order-once : Standing d → (s : List ℕ) (r r′ : Ordered) → OrderSaid d s t r → OrderSaid d s t r′ → SameOrdered r r′
+  order-once so s r r′ said said′ = order-parsed-once so (orderOf s) (order-orderly s) r r′ (said .parsed) (said′ .parsed)
+
+  -- a refused order changes the tally at most
+  order-judged-kept : (b : Board) (took : ℕ) (r : Ordered) {why : Why} {place : ℕ} → OrderJudged b d t took r → r .answer ≡ Refused why place → r .desk ≡ d
+  order-judged-kept b took r (order.refused v is) e = ap (λ (x : Ordered). x .desk) is
+  order-judged-kept b took r (order.made v a k p bo h ta) e = never (sym e ∙ a)
+
+  order-tried-kept :
+      (a : Answer) (o : Order) (took : ℕ) (r : Ordered) {why : Why} {place : ℕ} → OrderTried a d t o took r → r .answer ≡ Refused why place → r .desk ≡ d
+  order-tried-kept (Refused why place) o took r is e = ap (λ (x : Ordered). x .desk) is
+  order-tried-kept Done o took r j e = order-judged-kept (changedOf (d .board) o) took r j e
+
+  order-parsed-kept : (p : Parse Order) (r : Ordered) {why : Why} {place : ℕ} → OrderParsed p d t r → r .answer ≡ Refused why place → r .desk ≡ d
+  order-parsed-kept (stop why place) r is e = ap (λ (x : Ordered). x .desk) is
+  order-parsed-kept (got o took) r j e = order-tried-kept (triedOf d t o) o took r j e
+
+  pub order-refused-stays : (s : List ℕ) (r : Ordered) {why : Why} {place : ℕ} → OrderSaid d s t r → r .answer ≡ Refused why place → r .desk ≡ d
+  order-refused-stays s r said e = order-parsed-kept (orderOf s) r (said .parsed) e

@@ -1,0 +1,38 @@
+-- "A held board is one that an accepted load gave, changed since by orders alone": the desks and tallies that can come to be.
+-- Assumes nothing.
+use mathlib.Core.Path.{_≡_}
+use mathlib.Core.List.{List, [], _∷_}
+use Prim.Native.Nat.{ℕ, _+_}
+use Rattle.base.specs.Pick.{pick}
+use Rattle.refusal.specs.declared.Answer.{Answer}
+use Rattle.refusal.specs.declared.Answer.the-variants.{Done, Refused}
+use Rattle.desk.specs.declared.Tally.{Tally}
+use Rattle.desk.specs.declared.Desk.{Desk}
+use Rattle.desk.specs.declared.Loaded.{Loaded}
+use Rattle.desk.specs.declared.Ordered.{Ordered}
+use Rattle.desk.specs.Load.{LoadSaid}
+use Rattle.desk.specs.Order.{OrderSaid, counts}
+
+-- a desk and its tally, with the answers to the orders since the load, the last one first
+pub data Reached : Desk → Tally → List Answer → Type 0 where
+  loaded : {d : Desk} {s : List ℕ} {t : Tally} {r : Loaded} → LoadSaid d s t r → r .answer ≡ Done → Reached (r .desk) (r .tally) []
+  ordered :
+      {d : Desk} {t : Tally} {answers : List Answer} {s : List ℕ} {r : Ordered} → Reached d t answers → OrderSaid d s t r →
+      Reached (r .desk) (r .tally) (r .answer ∷ answers)
+
+-- "the tally counts an order refused by 7, 9, 10, 13, 14, 15 or 17", and every order that is made
+abbrev pub takenBy : Answer → ℕ
+takenBy Done = 1
+takenBy (Refused why place) = 0
+
+abbrev pub refusedBy : Answer → ℕ
+refusedBy Done = 0
+refusedBy (Refused why place) = pick (counts why) 1 0
+
+unfoldable pub takenIn : List Answer → ℕ
+takenIn [] = 0
+takenIn (a ∷ answers) = takenIn answers + takenBy a
+
+unfoldable pub refusedIn : List Answer → ℕ
+refusedIn [] = 0
+refusedIn (a ∷ answers) = refusedIn answers + refusedBy a

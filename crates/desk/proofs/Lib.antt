@@ -1,0 +1,4 @@
+pub mod Tried
+pub mod Judging
+pub mod Ordering
+pub mod Writing

@@ -1,0 +1,6 @@
+pub mod Held
+pub mod Empty
+pub mod Load
+pub mod Order
+pub mod Write
+pub mod Steps

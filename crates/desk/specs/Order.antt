@@ -1,0 +1,148 @@
+-- Demand 3: "An order is made exactly when no listed refusal applies, and changes its one place and nothing else."
+-- Assumes nothing.
+use mathlib.Core.Path.{_≡_}
+use mathlib.Core.Bool.{Bool, true, false}
+use mathlib.Core.List.{List, []}
+use Prim.Native.Nat.{ℕ, _+_, _≤_}
+use lib.Dec.{ltb, leb, eqb}
+use Rattle.base.specs.Pick.{pick}
+use Rattle.refusal.specs.declared.Why.{Why}
+use Rattle.refusal.specs.declared.Why.the-variants.{
+  CutShort,
+  NotShortest,
+  WrongVersion,
+  OutOfRange,
+  SavingNotBelow,
+  PowerBelowSavings,
+  LinkNotAbove,
+  BytesAfter,
+  Looped,
+  TooSlow,
+  NoBoard,
+  UnknownKind,
+  LinkThere,
+  LinkMissing,
+  LinksFull,
+  BufferShort,
+  NoPart,
+  TallyFull,
+  OffCurve,
+  NoLabel,
+}
+use Rattle.refusal.specs.declared.Answer.{Answer}
+use Rattle.refusal.specs.declared.Answer.the-variants.{Done, Refused}
+use Rattle.curve.specs.declared.Curve.{Curve}
+use Rattle.board.specs.declared.Board.{Board}
+use Rattle.edits.specs.Edits.{linkOf, hasLinkOf, withDeadlineOf, withCurveOf, withLinkOf, withoutLinkOf}
+use Rattle.slow.specs.Walk.{trailOf}
+use Rattle.fields.specs.Parse.{Parse, got, stop}
+use Rattle.orders.specs.declared.Change.{Change}
+use Rattle.orders.specs.declared.Change.the-variants.{Deadline, AddLink, RemoveLink, NewCurve}
+use Rattle.orders.specs.declared.Order.{Order}
+use Rattle.orders.specs.Order.{orderOf}
+use Rattle.desk.specs.declared.Tally.{Tally}
+use Rattle.desk.specs.declared.Desk.{Desk}
+use Rattle.desk.specs.declared.Ordered.{Ordered}
+use Rattle.desk.specs.Held.{Holding, Standing, Verdict}
+
+-- "exactly its one place changes": the board with the change made
+abbrev pub changeMade : Board → Change → Curve → Board
+changeMade b (Deadline d) c = withDeadlineOf b d
+changeMade b (AddLink from to) c = withLinkOf b from to
+changeMade b (RemoveLink from to) c = withoutLinkOf b from to
+changeMade b (NewCurve part) c = withCurveOf b part c
+
+unfoldable pub changedOf : Board → Order → Board
+changedOf b o = changeMade b (o .change) (o .curve)
+
+-- 17: "no such part on the board", place: "the part asked for"; else what comes next
+abbrev pub withPart : Board → ℕ → Answer → Answer
+withPart b p next = pick (ltb p (b .parts)) next (Refused NoPart p)
+
+-- "17 (from before to), then for a link to add 7, 13, 15, 9; for one to remove 14": all but 9, which is judged with 10
+abbrev pub placeTried : Board → Change → Answer
+placeTried b (Deadline d) = Done
+placeTried b (AddLink from to) =
+    withPart b from
+    (withPart b to
+    (pick (eqb from to)
+    (Refused LinkNotAbove 0)
+    (pick (hasLinkOf b (linkOf from to)) (Refused LinkThere 0) (pick (leb 256 (b .links)) (Refused LinksFull 0) Done))))
+placeTried b (RemoveLink from to) =
+    withPart b from (withPart b to (pick (hasLinkOf b (linkOf from to)) Done (Refused LinkMissing 0)))
+placeTried b (NewCurve part) = withPart b part Done
+
+-- "and then tried: 11, 18, 17 .."; 18: "tally's sum is 65,535 or more"
+unfoldable pub triedOf : Desk → Tally → Order → Answer
+triedOf d t o =
+    pick (d .held)
+    (pick (leb 65535 (t .taken + t .refused)) (Refused TallyFull 0) (placeTried (d .board) (o .change)))
+    (Refused NoBoard 0)
+
+-- "the tally counts an order refused by 7, 9, 10, 13, 14, 15 or 17"
+abbrev pub counts : Why → Bool
+counts CutShort = false
+counts NotShortest = false
+counts WrongVersion = false
+counts OutOfRange = false
+counts SavingNotBelow = false
+counts PowerBelowSavings = false
+counts LinkNotAbove = true
+counts BytesAfter = false
+counts Looped = true
+counts TooSlow = true
+counts NoBoard = false
+counts UnknownKind = false
+counts LinkThere = true
+counts LinkMissing = true
+counts LinksFull = true
+counts BufferShort = false
+counts NoPart = true
+counts TallyFull = false
+counts OffCurve = false
+counts NoLabel = false
+
+abbrev pub oneTaken : Tally → Tally
+oneTaken t = record { taken = t .taken + 1; refused = t .refused }
+
+abbrev pub oneRefused : Tally → Tally
+oneRefused t = record { taken = t .taken; refused = t .refused + 1 }
+
+unfoldable pub refusedTally : Why → Tally → Tally
+refusedTally why t = pick (counts why) (oneRefused t) t
+
+-- a refused order changes the tally at most
+abbrev pub orderRefused : Why → ℕ → ℕ → List ℕ → Desk → Tally → Ordered
+orderRefused why place took path d t = record {
+  answer = Refused why place;
+  took = took;
+  path = trailOf path;
+  desk = d;
+  tally = refusedTally why t;
+}
+
+-- the order was read, and no refusal but 9 and 10 is left: what the board as it would be comes to
+pub data OrderJudged (b : Board) (d : Desk) (t : Tally) (took : ℕ) (r : Ordered) : Type 0 where
+  refused :
+      {why : Why} {place : ℕ} {path : List ℕ} → Verdict b (Refused why place) path → r ≡ orderRefused why place took path d t →
+      OrderJudged b d t took r
+  made :
+      Verdict b Done [] → r .answer ≡ Done → r .took ≡ took → r .path ≡ trailOf [] → r .desk .board ≡ b → Holding (r .desk) →
+      r .tally ≡ oneTaken t → OrderJudged b d t took r
+
+abbrev pub OrderTried : Answer → Desk → Tally → Order → ℕ → Ordered → Type 0
+OrderTried (Refused why place) d t o took r = r ≡ orderRefused why place took [] d t
+OrderTried Done d t o took r = OrderJudged (changedOf (d .board) o) d t took r
+
+-- "An order is read alone .. and then tried". One that cannot be read takes no bytes and is not counted
+abbrev pub OrderParsed : Parse Order → Desk → Tally → Ordered → Type 0
+OrderParsed (stop why place) d t r = r ≡ orderRefused why place 0 [] d t
+OrderParsed (got o took) d t r = OrderTried (triedOf d t o) d t o took r
+
+pub record OrderSaid (d : Desk) (s : List ℕ) (t : Tally) (r : Ordered) : Type 0 where
+  pub parsed : OrderParsed (orderOf s) d t r
+
+-- what is promised of an order: all of that on a desk that stands, and on any desk that a refusal changes the tally at most
+pub record OrderGiven (d : Desk) (s : List ℕ) (t : Tally) (r : Ordered) : Type 0 where
+  pub said : Standing d → OrderSaid d s t r
+  pub stays : (why : Why) (place : ℕ) → r .answer ≡ Refused why place → (r .desk ≡ d) × (r .tally ≡ refusedTally why t)
