@@ -6,9 +6,13 @@ use lib.Count.{ones}
 use Rattle.refusal.specs.declared.Answer.{Answer}
 use Rattle.refusal.specs.declared.Answer.the-variants.{Done}
 use Rattle.cone.specs.Cone.{Upstream, Downstream}
+use Rattle.kin.specs.declared.Kin.{Kin}
+use Rattle.kin.specs.Critical.{Critical}
+use Rattle.kin.specs.Kin.{KinOf}
 use Rattle.desk.specs.declared.Desk.{Desk}
 use Rattle.questions.specs.declared.Marked.{Marked}
 use Rattle.questions.specs.declared.ConeAsked.{ConeAsked}
+use Rattle.questions.specs.declared.FamilyAsked.{FamilyAsked}
 use Rattle.questions.specs.Tried.{partTried, Said}
 
 -- "a set of 64 marks, bit n for part n, .. and the number of parts marked"
@@ -30,3 +34,23 @@ UpstreamSaid d p r = Said (partTried d p) d coneRefused (ConeGiven (Upstream (d 
 
 unfoldable pub DownstreamSaid : Desk → ℕ → ConeAsked → Type 0
 DownstreamSaid d p r = Said (partTried d p) d coneRefused (ConeGiven (Downstream (d .board) p)) r
+
+-- ---- "Parent and child sets (document 002)"
+-- a link that is critical in the held budget leads from part p to part q
+abbrev pub CriticalIn : Desk → ℕ → ℕ → Type 0
+CriticalIn d p q = Critical (d .board) (d .budget .start) (d .budget .end) p q
+
+abbrev pub familyRefused : Answer → FamilyAsked
+familyRefused answer = record { answer = answer; parents = record { set = 0; count = 0 }; children = record { set = 0; count = 0 } }
+
+abbrev pub kinIn : FamilyAsked → Kin
+kinIn r = record { parents = r .parents .set; children = r .children .set }
+
+pub record FamilyGiven (d : Desk) (p : ℕ) (r : FamilyAsked) : Type 0 where
+  pub done : r .answer ≡ Done
+  pub sets : KinOf (CriticalIn d) p (kinIn r)
+  pub parent-count : r .parents .count ≡ ones (r .parents .set)
+  pub child-count : r .children .count ≡ ones (r .children .set)
+
+unfoldable pub FamilySaid : Desk → ℕ → FamilyAsked → Type 0
+FamilySaid d p r = Said (partTried d p) d familyRefused (FamilyGiven d p) r

@@ -19,6 +19,9 @@ refusedBy why place = Refused why place
 abbrev pub noBoard : Answer
 noBoard = Refused NoBoard 0
 
+unfoldable pub boardTried : Desk → Answer
+boardTried d = pick (d .held) Done noBoard
+
 -- "Questions: 11, 17, 19". 17: "no such part on the board", place: "the part asked for"
 unfoldable pub partTried : Desk → ℕ → Answer
 partTried d p = pick (d .held) (withPart (d .board) p Done) noBoard

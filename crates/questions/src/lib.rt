@@ -4,13 +4,16 @@ use curve::Microwatts;
 use curve::Power;
 use curve::Ticks;
 use desk::Desk;
+use kin::Kin;
 use refusal::Answer;
 use refusal::Why;
 ghost use mathlib.Core.Path.{_≡_};
 ghost use Rattle.curve.specs.Curve.{Good};
 ghost use Rattle.curve.specs.Answers.{powerAtOf};
+ghost use Rattle.kin.specs.Kin.{KinOf};
 ghost use Rattle.questions.specs.Tried.{noBoard, partTried};
-ghost use Rattle.questions.specs.Sets.{countedOf, UpstreamSaid, DownstreamSaid};
+ghost use Rattle.questions.specs.Sets.{countedOf, UpstreamSaid, DownstreamSaid, CriticalIn, FamilySaid};
+ghost use Rattle.questions.specs.Links.{linkNone, criticalHeld, LinkSaid};
 ghost use Rattle.questions.specs.Numbers.{powerRefused, powerTold, PowerSaid, partRefused, PartSaid, totalAsked, deadlineAsked, countAsked, partsAsked, linksAsked};
 
 // A set of 64 marks, bit n for part n, and the number of parts marked.
@@ -23,6 +26,13 @@ pub struct Marked {
 pub struct ConeAsked {
     pub answer: Answer,
     pub cone: Marked,
+}
+
+// Parents and children of a part.
+pub struct FamilyAsked {
+    pub answer: Answer,
+    pub parents: Marked,
+    pub children: Marked,
 }
 
 pub struct PowerAsked {
@@ -53,6 +63,15 @@ pub struct DeadlineAsked {
 pub struct CountAsked {
     pub answer: Answer,
     pub count: usize,
+}
+
+// A link by its place among the links; no refusal is listed for a place past the last link, and `there` says that none is there.
+pub struct LinkAsked {
+    pub answer: Answer,
+    pub there: bool,
+    pub from: usize,
+    pub to: usize,
+    pub critical: bool,
 }
 
 // Refusal 11.
@@ -124,6 +143,38 @@ pub fn downstream(d: Desk, part: usize) -> ConeAsked
             ConeAsked {
                 answer: answer,
                 cone: counted(cone::downstream(b, part)),
+            }
+        }
+    }
+}
+
+// The parents and children of a part, by the links that are critical in the held budget.
+fn kin_held(d: Desk, part: usize) -> Kin
+    ensures { λ r. ⌜ KinOf (CriticalIn d) part r ⌝ }
+{
+    let b = d.board;
+    let start = d.budget.start;
+    let end = d.budget.end;
+    kin::kin_of(b, start, end, part)
+}
+
+// Parent and child sets.
+pub fn family(d: Desk, part: usize) -> FamilyAsked
+    ensures { λ r. ⌜ FamilySaid d part r ⌝ }
+{
+    let answer = part_tried(d, part);
+    match answer {
+        Answer::Refused { why: _, place: _ } => FamilyAsked {
+            answer: answer,
+            parents: counted(0),
+            children: counted(0),
+        },
+        Answer::Done => {
+            let k = kin_held(d, part);
+            FamilyAsked {
+                answer: answer,
+                parents: counted(k.parents),
+                children: counted(k.children),
             }
         }
     }
@@ -273,4 +324,51 @@ pub fn links(d: Desk) -> CountAsked
     ensures { λ r. ⌜ r ≡ linksAsked d ⌝ }
 {
     counts(d.held, d.board.links)
+}
+
+// No link, and why.
+fn no_link(answer: Answer) -> LinkAsked
+    ensures { λ r. ⌜ r ≡ linkNone answer ⌝ }
+{
+    LinkAsked {
+        answer: answer,
+        there: false,
+        from: 0,
+        to: 0,
+        critical: false,
+    }
+}
+
+// Whether link `index` of the held board is critical in the held budget.
+fn critical_held(d: Desk, index: usize) -> bool
+    ensures { λ r. ⌜ r ≡ criticalHeld d index ⌝ }
+{
+    let b = d.board;
+    let start = d.budget.start;
+    let end = d.budget.end;
+    kin::link_is_critical(b, start, end, index)
+}
+
+// Link `index`, in the order in which links are held. No board that a load gave has a link 256.
+pub fn link(d: Desk, index: usize) -> LinkAsked
+    ensures { λ r. ⌜ LinkSaid d index r ⌝ }
+{
+    if !d.held {
+        return no_link(no_board());
+    }
+    let b = d.board;
+    if b.links <= index {
+        return no_link(Answer::Done);
+    }
+    if 256 <= index {
+        return no_link(Answer::Done);
+    }
+    let l = b.link[index];
+    LinkAsked {
+        answer: Answer::Done,
+        there: true,
+        from: l.from,
+        to: l.to,
+        critical: critical_held(d, index),
+    }
 }
