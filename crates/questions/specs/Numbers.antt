@@ -6,9 +6,9 @@ use Prim.Native.Nat.{ℕ}
 use Rattle.base.specs.Pick.{pick}
 use Rattle.theory.specs.Sum.{cells}
 use Rattle.refusal.specs.declared.Answer.{Answer}
-use Rattle.refusal.specs.declared.Answer.the-variants.{Done}
+use Rattle.refusal.specs.declared.Answer.the-variants.{Done, Refused}
 use Rattle.curve.specs.declared.Power.{Power}
-use Rattle.curve.specs.declared.Power.the-variants.{At, Refused}
+use Rattle.curve.specs.declared.Power.the-variants as power
 use Rattle.curve.specs.Answers.{powerAtOf}
 use Rattle.board.specs.Board.{curveAt}
 use Rattle.budget.specs.declared.Budget.{Budget}
@@ -18,15 +18,15 @@ use Rattle.questions.specs.declared.PartAsked.{PartAsked}
 use Rattle.questions.specs.declared.TotalAsked.{TotalAsked}
 use Rattle.questions.specs.declared.DeadlineAsked.{DeadlineAsked}
 use Rattle.questions.specs.declared.CountAsked.{CountAsked}
-use Rattle.questions.specs.Tried.{refusedBy, noBoard, partTried, Said}
+use Rattle.questions.specs.Tried.{noBoard, partTried, Said}
 
 -- ---- "Power of a part at a delay": any delay may be asked for, and 19 is given last
 abbrev pub powerRefused : Answer → PowerAsked
 powerRefused answer = record { answer = answer; power = record { 0 = 0 } }
 
 abbrev pub powerTold : Power → PowerAsked
-powerTold (At power) = record { answer = Done; power = power }
-powerTold (Refused why place) = powerRefused (refusedBy why place)
+powerTold (power.At p) = record { answer = Done; power = p }
+powerTold (power.Refused why place) = powerRefused (Refused why place)
 
 unfoldable pub PowerSaid : Desk → ℕ → ℕ → PowerAsked → Type 0
 PowerSaid d p delay r = Said (partTried d p) d powerRefused (λ r. r ≡ powerTold (powerAtOf (curveAt (d .board) p) delay)) r

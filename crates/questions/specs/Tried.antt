@@ -4,16 +4,12 @@
 use mathlib.Core.Path.{_≡_}
 use Prim.Native.Nat.{ℕ}
 use Rattle.base.specs.Pick.{pick}
-use Rattle.refusal.specs.declared.Why.{Why}
 use Rattle.refusal.specs.declared.Why.the-variants.{NoBoard}
 use Rattle.refusal.specs.declared.Answer.{Answer}
 use Rattle.refusal.specs.declared.Answer.the-variants.{Done, Refused}
 use Rattle.desk.specs.declared.Desk.{Desk}
 use Rattle.desk.specs.Held.{Standing}
 use Rattle.desk.specs.Order.{withPart}
-
-abbrev pub refusedBy : Why → ℕ → Answer
-refusedBy why place = Refused why place
 
 -- 11: "no board held", place 0
 abbrev pub noBoard : Answer
