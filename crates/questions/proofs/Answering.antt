@@ -1,11 +1,9 @@
 -- The ways through the functions that answer a question of a held board, in plain values.
 -- Assumes nothing.
-use mathlib.Core.Path.{_≡_, refl, sym, ap, _∙_}
+use mathlib.Core.Path.{_≡_, refl, sym, _∙_}
 use mathlib.Core.Bool.{Bool, true, false, not}
 use Prim.Native.Nat.{ℕ, _≤_, _<_}
 use native.Mathlib.Omega.{arith}
-use lib.Count.{ones}
-use lib.Dec.{ltb}
 use lib.ListN.{getD}
 use borrow.Author.Tests.{lt-ltb, le-ltb, ltb-true}
 use Rattle.base.specs.Pick.{pick}
@@ -19,24 +17,21 @@ use Rattle.curve.specs.declared.Microwatts.{Microwatts}
 use Rattle.curve.specs.declared.Power.{Power}
 use Rattle.curve.specs.declared.Power.the-variants as power
 use Rattle.curve.specs.Curve.{Good, slowestOf}
-use Rattle.curve.specs.Answers.{powerAtOf, offCurve}
+use Rattle.curve.specs.Answers.{powerAtOf}
 use Rattle.curve.proofs.CurveLaws.{power-at-past, slowest-to}
-use Rattle.board.specs.declared.Board.{Board}
 use Rattle.board.specs.Board.{WellFormed, curveAt, linkAt}
 use Rattle.cone.specs.Cone.{Upstream, Downstream}
 use Rattle.kin.specs.declared.Kin.{Kin}
 use Rattle.kin.specs.Kin.{KinOf}
 use Rattle.desk.specs.declared.Desk.{Desk}
-use Rattle.desk.specs.Held.{Kept, Holding, Standing, empty, holding}
+use Rattle.desk.specs.Held.{Kept, Standing, empty, holding}
 use Rattle.questions.specs.declared.Marked.{Marked}
-use Rattle.questions.specs.declared.ConeAsked.{ConeAsked}
-use Rattle.questions.specs.declared.FamilyAsked.{FamilyAsked}
 use Rattle.questions.specs.declared.PowerAsked.{PowerAsked}
 use Rattle.questions.specs.declared.PartAsked.{PartAsked}
 use Rattle.questions.specs.declared.LinkAsked.{LinkAsked}
 use Rattle.questions.specs.Tried.{noBoard, boardTried, partTried, Said}
-use Rattle.questions.specs.Sets.{countedOf, coneRefused, ConeGiven, UpstreamSaid, DownstreamSaid, CriticalIn, kinIn, familyRefused, FamilyGiven, FamilySaid}
-use Rattle.questions.specs.Numbers.{powerRefused, powerTold, PowerSaid, partRefused, partOf, PartSaid}
+use Rattle.questions.specs.Sets.{countedOf, coneRefused, ConeGiven, UpstreamSaid, DownstreamSaid, CriticalIn, FamilySaid}
+use Rattle.questions.specs.Numbers.{powerRefused, powerTold, PowerSaid, partRefused, PartSaid}
 use Rattle.questions.specs.Links.{linkNone, criticalHeld, linkTold, LinkSaid}
 use Rattle.questions.proofs.Ways.{is-false, is-true}
 

@@ -1,6 +1,6 @@
 -- Two answers that a question's contract allows are equal.
 -- Assumes nothing.
-use mathlib.Core.Path.{_≡_, refl, sym, ap, _∙_}
+use mathlib.Core.Path.{_≡_, sym, ap, _∙_}
 use Prim.Native.Nat.{ℕ}
 use lib.Count.{ones}
 use Rattle.refusal.specs.declared.Answer.{Answer}

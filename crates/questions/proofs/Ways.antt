@@ -1,26 +1,16 @@
 -- The ways through the functions that try a question and that answer by a number of the desk, in plain values.
 -- Assumes nothing.
-use mathlib.Core.Path.{_≡_, refl, sym, ap, _∙_}
+use mathlib.Core.Path.{_≡_, refl, sym}
 use mathlib.Core.Bool.{Bool, true, false, not}
 use Prim.Native.Nat.{ℕ, _≤_, _<_}
-use native.Mathlib.Omega.{arith}
 use lib.Count.{ones}
-use lib.Dec.{ltb}
 use borrow.Author.Tests.{lt-ltb, le-ltb}
 use Rattle.base.specs.Pick.{pick}
-use Rattle.refusal.specs.declared.Why.{Why}
-use Rattle.refusal.specs.declared.Why.the-variants.{NoPart}
 use Rattle.refusal.specs.declared.Answer.{Answer}
-use Rattle.refusal.specs.declared.Answer.the-variants.{Done, Refused}
-use Rattle.curve.specs.declared.Ticks.{Ticks}
+use Rattle.refusal.specs.declared.Answer.the-variants.{Done}
 use Rattle.kin.specs.Critical.{criticalAt}
 use Rattle.desk.specs.declared.Desk.{Desk}
-use Rattle.desk.specs.Order.{withPart}
-use Rattle.questions.specs.declared.Marked.{Marked}
-use Rattle.questions.specs.declared.TotalAsked.{TotalAsked}
-use Rattle.questions.specs.declared.DeadlineAsked.{DeadlineAsked}
-use Rattle.questions.specs.declared.CountAsked.{CountAsked}
-use Rattle.questions.specs.Tried.{noBoard, boardTried, partTried}
+use Rattle.questions.specs.Tried.{noBoard, noPart, partTried}
 use Rattle.questions.specs.Sets.{countedOf}
 use Rattle.questions.specs.Numbers.{totalAsked, deadlineAsked, countAsked}
 use Rattle.questions.specs.Links.{criticalHeld}
@@ -43,9 +33,9 @@ module _ (d : Desk) (p : ℕ) where
   unfolding partTried pick
   tried-part held here = rw (is-true (d .held) held, lt-ltb p (d .board .parts) here)
 
-  pub tried-past : not (d .held) ≡ false → d .board .parts ≤ p → Refused NoPart p ≡ partTried d p
+  pub tried-past : (a : Answer) → not (d .held) ≡ false → d .board .parts ≤ p → a ≡ noPart p → a ≡ partTried d p
   unfolding partTried pick
-  tried-past held past = rw (is-true (d .held) held, le-ltb p (d .board .parts) past)
+  tried-past a held past e = rw (is-true (d .held) held, le-ltb p (d .board .parts) past) e
 
 pub set-counted : (set n : ℕ) → n ≡ ones set → record { set = set; count = n } ≡ countedOf set
 unfolding countedOf

@@ -3,24 +3,28 @@
 -- Assumes nothing.
 use mathlib.Core.Path.{_≡_}
 use Prim.Native.Nat.{ℕ}
+use lib.Dec.{ltb}
 use Rattle.base.specs.Pick.{pick}
-use Rattle.refusal.specs.declared.Why.the-variants.{NoBoard}
+use Rattle.refusal.specs.declared.Why.the-variants.{NoBoard, NoPart}
 use Rattle.refusal.specs.declared.Answer.{Answer}
 use Rattle.refusal.specs.declared.Answer.the-variants.{Done, Refused}
 use Rattle.desk.specs.declared.Desk.{Desk}
 use Rattle.desk.specs.Held.{Standing}
-use Rattle.desk.specs.Order.{withPart}
 
 -- 11: "no board held", place 0
 abbrev pub noBoard : Answer
 noBoard = Refused NoBoard 0
 
+-- 17: "no such part on the board", place: "the part asked for"
+abbrev pub noPart : ℕ → Answer
+noPart p = Refused NoPart p
+
 unfoldable pub boardTried : Desk → Answer
 boardTried d = pick (d .held) Done noBoard
 
--- "Questions: 11, 17, 19". 17: "no such part on the board", place: "the part asked for"
+-- "Questions: 11, 17, 19"
 unfoldable pub partTried : Desk → ℕ → Answer
-partTried d p = pick (d .held) (withPart (d .board) p Done) noBoard
+partTried d p = pick (d .held) (pick (ltb p (d .board .parts)) Done (noPart p)) noBoard
 
 -- what a question that is tried so comes to: its refusal, or else what it asks for
 abbrev pub Said : {R : Type 0} → Answer → Desk → (Answer → R) → (R → Type 0) → R → Type 0

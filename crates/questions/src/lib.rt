@@ -11,7 +11,7 @@ ghost use mathlib.Core.Path.{_≡_};
 ghost use Rattle.curve.specs.Curve.{Good};
 ghost use Rattle.curve.specs.Answers.{powerAtOf};
 ghost use Rattle.kin.specs.Kin.{KinOf};
-ghost use Rattle.questions.specs.Tried.{noBoard, partTried};
+ghost use Rattle.questions.specs.Tried.{noBoard, noPart, partTried};
 ghost use Rattle.questions.specs.Sets.{countedOf, UpstreamSaid, DownstreamSaid, CriticalIn, FamilySaid};
 ghost use Rattle.questions.specs.Links.{linkNone, criticalHeld, LinkSaid};
 ghost use Rattle.questions.specs.Numbers.{powerRefused, powerTold, PowerSaid, partRefused, PartSaid, totalAsked, deadlineAsked, countAsked, partsAsked, linksAsked};
@@ -84,6 +84,16 @@ fn no_board() -> Answer
     }
 }
 
+// Refusal 17.
+fn no_part(part: usize) -> Answer
+    ensures { λ r. ⌜ r ≡ noPart part ⌝ }
+{
+    Answer::Refused {
+        why: Why::NoPart,
+        place: part,
+    }
+}
+
 // What a question about a part is refused for: 11, then 17.
 fn part_tried(d: Desk, part: usize) -> Answer
     ensures { λ r. ⌜ r ≡ partTried d part ⌝ }
@@ -94,10 +104,7 @@ fn part_tried(d: Desk, part: usize) -> Answer
     if part < d.board.parts {
         return Answer::Done;
     }
-    Answer::Refused {
-        why: Why::NoPart,
-        place: part,
-    }
+    no_part(part)
 }
 
 // A set with the number of parts marked.
@@ -213,7 +220,7 @@ fn power_on(c: Curve, delay: usize) -> PowerAsked
     }
 }
 
-// The power of a part at a delay: 11, 17, 19.
+// The power of a part at a delay: 11, 17, 19. No board that a load gave has a part 64.
 pub fn power(d: Desk, part: usize, delay: usize) -> PowerAsked
     ensures { λ r. ⌜ PowerSaid d part delay r ⌝ }
 {
@@ -222,7 +229,7 @@ pub fn power(d: Desk, part: usize, delay: usize) -> PowerAsked
         Answer::Refused { why: _, place: _ } => power_refused(answer),
         Answer::Done => {
             if 64 <= part {
-                return power_refused(answer);
+                return power_refused(no_part(part));
             }
             let b = d.board;
             power_on(b.curve[part], delay)
@@ -252,7 +259,7 @@ pub fn part(d: Desk, part: usize) -> PartAsked
         Answer::Refused { why: _, place: _ } => part_refused(answer),
         Answer::Done => {
             if 64 <= part {
-                return part_refused(answer);
+                return part_refused(no_part(part));
             }
             let b = d.budget;
             PartAsked {

@@ -17,35 +17,38 @@ part-refused-requires c κs = search needs
 enum-told-2 : tie.Need-enum-told-2
 enum-told-2 c = search needs
 
+no-part-requires : tie.Need-no-part-requires
+no-part-requires c κs = search needs
+
 part-refused-requires-2 : tie.Need-part-refused-requires-2
 part-refused-requires-2 c κs = search needs
 
 returns : tie.Need-returns
 returns c = search (part-given, part-none, part-past)
 
-mul-t7 : tie.Need-mul-t7
-mul-t7 c = search needs
+mul-t8 : tie.Need-mul-t8
+mul-t8 c = search needs
 
-element-copy-out-t10 : tie.Need-element-copy-out-t10
-element-copy-out-t10 c = search needs
+element-copy-out-t11 : tie.Need-element-copy-out-t11
+element-copy-out-t11 c = search needs
 
-mul-t12 : tie.Need-mul-t12
-mul-t12 c = search needs
+mul-t13 : tie.Need-mul-t13
+mul-t13 c = search needs
 
-element-copy-out-t15 : tie.Need-element-copy-out-t15
-element-copy-out-t15 c = search needs
+element-copy-out-t16 : tie.Need-element-copy-out-t16
+element-copy-out-t16 c = search needs
 
-mul-t17 : tie.Need-mul-t17
-mul-t17 c = search needs
+mul-t18 : tie.Need-mul-t18
+mul-t18 c = search needs
 
-element-copy-out-t20 : tie.Need-element-copy-out-t20
-element-copy-out-t20 c = search needs
+element-copy-out-t21 : tie.Need-element-copy-out-t21
+element-copy-out-t21 c = search needs
 
-mul-t22 : tie.Need-mul-t22
-mul-t22 c = search needs
+mul-t23 : tie.Need-mul-t23
+mul-t23 c = search needs
 
-element-copy-out-t25 : tie.Need-element-copy-out-t25
-element-copy-out-t25 c = search needs
+element-copy-out-t26 : tie.Need-element-copy-out-t26
+element-copy-out-t26 c = search needs
 
 returns-2 : tie.Need-returns-2
 returns-2 c = search (part-given, part-none, part-past)
@@ -61,15 +64,16 @@ part-spec =
     enum-told
     part-refused-requires
     enum-told-2
+    no-part-requires
     part-refused-requires-2
     returns
-    mul-t7
-    element-copy-out-t10
-    mul-t12
-    element-copy-out-t15
-    mul-t17
-    element-copy-out-t20
-    mul-t22
-    element-copy-out-t25
+    mul-t8
+    element-copy-out-t11
+    mul-t13
+    element-copy-out-t16
+    mul-t18
+    element-copy-out-t21
+    mul-t23
+    element-copy-out-t26
     returns-2
     returns-3)

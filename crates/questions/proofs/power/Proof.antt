@@ -17,6 +17,9 @@ power-refused-requires c κs = search needs
 enum-told-2 : tie.Need-enum-told-2
 enum-told-2 c = search needs
 
+no-part-requires : tie.Need-no-part-requires
+no-part-requires c κs = search needs
+
 power-refused-requires-2 : tie.Need-power-refused-requires-2
 power-refused-requires-2 c κs = search needs
 
@@ -46,6 +49,7 @@ power-spec =
     enum-told
     power-refused-requires
     enum-told-2
+    no-part-requires
     power-refused-requires-2
     returns
     mul-power-on
