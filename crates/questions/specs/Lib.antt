@@ -1,0 +1,4 @@
+pub mod Tried
+pub mod Sets
+pub mod Numbers
+pub mod Links
