@@ -1,6 +1,6 @@
 -- A well formed board is lawful mathematics: links join parts, a part takes time, savings fall and are afforded. And what `view` shows of it.
 -- Assumes nothing.
-use Rattle.theory.specs.Graph.{Graph, Lawful}
+use Rattle.theory.specs.Graph.{Lawful}
 use Rattle.curve.proofs.CurveLaws.{saving-past, saving-falls, affords-saves}
 use Rattle.board.specs.declared.Board.{Board}
 use Rattle.board.specs.Board.{WellFormed, view, curveAt}

@@ -4,19 +4,18 @@
 use mathlib.Core.Path.{_≡_, refl, sym, ap, _∙_}
 use mathlib.Core.Logic.{⊎-elim}
 use mathlib.Core.List.{List}
-use Prim.Native.Nat.{ℕ, suc, _+_, _*_, _≤_, _<_}
+use Prim.Native.Nat.{ℕ, _≤_, _<_}
 use native.Mathlib.Omega.{arith}
 use native.Mathlib.Nat.{le-antisymm}
-use lib.ListN.{length, getD}
 use lib.Seq.{ext-getD}
 use Rattle.base.proofs.Cases.{lt-or-le}
 use Rattle.curve.specs.declared.Ticks.{Ticks}
 use Rattle.curve.specs.declared.Curve.{Curve}
 use Rattle.board.specs.declared.Link.{Link}
 use Rattle.board.specs.declared.Board.{Board}
-use Rattle.board.specs.Board.{WellFormed, Linked, linkAt, curveAt, noLink, noCurve, order, blankCurve}
+use Rattle.board.specs.Board.{WellFormed, Linked, linkAt, curveAt, noLink, noCurve, order}
 use Rattle.board.proofs.LinkLaws.{order-same}
-use Rattle.board.proofs.Ascending.{Ascends, Within, Agree, agree}
+use Rattle.board.proofs.Ascending.{Within, Agree, agree}
 
 abbrev pub orders : Board → ℕ → ℕ
 orders b l = order (linkAt b l)

@@ -4,10 +4,9 @@ use mathlib.Core.Path.{_≡_, refl, sym, ap, _∙_}
 use mathlib.Core.Logic.{⊎-elim}
 use mathlib.Core.Bool.{Bool, true, false, not}
 use mathlib.Core.List.{List}
-use Prim.Native.Nat.{ℕ, suc, _+_, _≤_, _<_}
+use Prim.Native.Nat.{ℕ, _≤_, _<_}
 use native.Mathlib.Omega.{arith}
-use lib.Dec.{ltb}
-use lib.ListN.{length, getD}
+use lib.ListN.{length}
 use borrow.Author.Tests.{lt-ltb, le-ltb, ltb-false, not-true, not-false}
 use Rattle.base.specs.Pick.{pick}
 use Rattle.base.proofs.Cases.{lt-or-le}
@@ -15,11 +14,10 @@ use Rattle.curve.specs.declared.Run.{Run}
 use Rattle.curve.specs.declared.Curve.{Curve}
 use Rattle.curve.specs.Curve.{Good}
 use Rattle.curve.specs.Answers.{flatOf}
-use Rattle.curve.specs.Tests.{every, goodb}
 use Rattle.curve.proofs.GoodLaws.{every-at, every-all, goodb-good, good-goodb}
 use Rattle.curve.proofs.CurveLaws.{good-same, flat-good}
 use Rattle.board.specs.declared.Board.{Board}
-use Rattle.board.specs.Board.{WellFormed, curveAt, noCurve, blankCurve}
+use Rattle.board.specs.Board.{WellFormed, curveAt, blankCurve}
 use Rattle.board.specs.Tests.{Decides, quickened, curveBlank, curveTest, curvesTest, linksTest}
 use Rattle.board.proofs.LinkLaws.{clash, passed, held-of, blank-of, ascends-of, links-pass}
 

@@ -5,7 +5,7 @@ use mathlib.Core.Path.{_≡_, refl, sym, ap, _∙_}
 use mathlib.Core.Logic.{⊎-elim, _≢_}
 use mathlib.Core.Bool.{Bool, true, false}
 use mathlib.Core.List.{List}
-use Prim.Native.Nat.{ℕ, _+_, _<_}
+use Prim.Native.Nat.{ℕ}
 use lib.Dec.{ltb}
 use lib.ListN.{getD, set}
 use lib.Seq.{set-comm}
@@ -13,9 +13,9 @@ use Rattle.base.specs.Pick.{pick}
 use Rattle.curve.specs.declared.Ticks.{Ticks}
 use Rattle.curve.specs.declared.Curve.{Curve}
 use Rattle.board.specs.declared.Board.{Board}
-use Rattle.board.specs.Board.{WellFormed, Linked, curveAt, noCurve}
+use Rattle.board.specs.Board.{WellFormed, Linked, noCurve}
 use Rattle.board.proofs.SameBoard.{Alike, same-board}
-use Rattle.edits.specs.Edits.{linkOf, countBefore, placeOf, hasLinkOf, addable, withDeadlineOf, withCurveOf, withLinkOf, withoutLinkOf}
+use Rattle.edits.specs.Edits.{countBefore, placeOf, hasLinkOf, addable, withDeadlineOf, withCurveOf, withLinkOf, withoutLinkOf}
 use Rattle.edits.specs.Changes.{Ends, Addable, LinksOnly, LinkAdded, LinkRemoved}
 use Rattle.edits.proofs.LinkEdits.{with-link-well, with-link-added, without-link-well, without-link-removed}
 
@@ -90,6 +90,21 @@ module _ (b : Board) (w : WellFormed b) (f t g u : ℕ) where
       same-board _ _ (without-link-well (withLinkOf b f t) wa g u r) (with-link-well (withoutLinkOf b g u) wr f t c)
       (alike b _ _ (onward b _ _ (la .rest) (la₂ .rest)) (onward b _ _ (lr .rest) (lr₂ .rest)) (mixed b _ _ _ _ f t g u la la₂ lr lr₂)
       (mixed-back b _ _ _ _ f t g u (λ e. a .missing (moved b f t g u e there)) la la₂ lr lr₂))
+
+-- a link added and removed again leaves the board as it was
+module _ (b : Board) (w : WellFormed b) (f t : ℕ) (a : Addable b f t) where
+  pub add-then-remove : withoutLinkOf (withLinkOf b f t) f t ≡ b
+  add-then-remove =
+      let wa = with-link-well b w f t a in
+      let la = with-link-added b w f t a in
+      let lr = without-link-removed (withLinkOf b f t) wa f t (la .new) in
+      same-board _ b (without-link-well (withLinkOf b f t) wa f t (la .new)) w
+      (alike b _ b (onward b _ _ (la .rest) (lr .rest)) (record { deadline = refl; parts = refl; curve = refl })
+      (λ p q k. ⊎-elim
+      (λ (l : Linked b p q). l)
+      (λ (e : Ends p q f t). absurd (lr .gone (moved _ f t p q (record { starts = sym (e .starts); ends = sym (e .ends) }) k)))
+      (la .only p q (lr .only p q k)))
+      (λ p q k. lr .kept p q (la .kept p q k) (λ e. a .missing (moved b f t p q (record { starts = sym (e .starts); ends = sym (e .ends) }) k))))
 
 -- both removed
 two-removed : (b c c′ d d′ : Board) (f t g u : ℕ) → LinkRemoved b c f t → LinkRemoved c d g u → LinkRemoved b c′ g u → LinkRemoved c′ d′ f t

@@ -4,13 +4,13 @@ use mathlib.Core.Path.{_≡_, refl, _∙_}
 use mathlib.Core.Logic.{⊎-elim}
 use Prim.Native.Nat.{ℕ, suc, _≤_, _<_}
 use native.Mathlib.Omega.{arith}
-use lib.ListN.{length, getD, length-replicate, getD-replicate}
+use lib.ListN.{length-replicate, getD-replicate}
 use Rattle.base.proofs.Cases.{eq-or-ne}
 use Rattle.curve.specs.declared.Ticks.{Ticks}
 use Rattle.curve.specs.declared.Curve.{Curve}
 use Rattle.curve.specs.Curve.{Good}
 use Rattle.board.specs.declared.Board.{Board}
-use Rattle.board.specs.Board.{WellFormed, curveAt, linkAt, noCurve, noLink, blankCurve}
+use Rattle.board.specs.Board.{WellFormed, curveAt, noCurve, noLink, blankCurve}
 use Rattle.board.specs.Tests.{blankCurves, blankLinks, emptyOf}
 use Rattle.edits.specs.Edits.{withCurveOf}
 use Rattle.edits.specs.Changes.{Filled}

@@ -3,10 +3,9 @@
 use mathlib.Core.Path.{_≡_, refl, sym, ap, _∙_, subst}
 use mathlib.Core.Logic.{⊎-elim, _⊎_, inl, inr, _≢_}
 use mathlib.Core.Bool.{true, false}
-use mathlib.Core.List.{List}
-use Prim.Native.Nat.{ℕ, zero, suc, _+_, _*_, _-_, _≤_, _<_}
+use Prim.Native.Nat.{ℕ, zero, suc, _+_, _-_, _≤_, _<_}
 use native.Mathlib.Omega.{arith}
-use lib.ListN.{length, getD, List·getD-eq-default}
+use lib.ListN.{List·getD-eq-default}
 use Rattle.base.proofs.Cases.{lt-or-le, eq-or-ne}
 use Rattle.board.specs.declared.Link.{Link}
 use Rattle.board.specs.declared.Board.{Board}
@@ -15,9 +14,9 @@ use Rattle.board.proofs.LinkLaws.{order-same}
 use Rattle.board.proofs.Ascending.{Parted, rises, rises-le}
 use Rattle.board.proofs.SameBoard.{orders, to-below}
 use Rattle.edits.specs.Edits.{linkOf, placeOf, insertedOf, removedOf, withLinkOf, withoutLinkOf}
-use Rattle.edits.specs.Changes.{Ends, Addable, LinksOnly, LinkAdded, LinkRemoved}
+use Rattle.edits.specs.Changes.{Ends, Addable, LinkAdded, LinkRemoved}
 use Rattle.edits.proofs.Ways.{linked, link-added, link-removed}
-use Rattle.edits.proofs.Places.{place-parts, missing-false, linked-place, linked-has, ends-small, inserted-length, inserted-below, inserted-here, inserted-above, removed-length, removed-below, removed-above}
+use Rattle.edits.proofs.Places.{place-parts, missing-false, linked-place, linked-has, inserted-length, inserted-below, inserted-here, inserted-above, removed-length, removed-below, removed-above}
 
 -- ---- a link more
 module _ (b : Board) (w : WellFormed b) (from to : ℕ) (may : Addable b from to) where

@@ -1,26 +1,24 @@
 -- Where a link stands: the place that is counted parts the links into those before it and the others, so a board has a link exactly where it
 -- stands at its place. And what a row filled place by place holds.
 -- Assumes nothing.
-use mathlib.Core.Path.{_≡_, refl, sym, ap, _∙_}
+use mathlib.Core.Path.{_≡_, refl, _∙_}
 use mathlib.Core.Logic.{⊎-elim}
 use mathlib.Core.Bool.{Bool, true, false}
 use mathlib.Core.List.{List}
-use Prim.Native.Nat.{ℕ, zero, suc, _+_, _*_, _-_, _≤_, _<_}
+use Prim.Native.Nat.{ℕ, zero, suc, _-_, _≤_, _<_}
 use native.Mathlib.Omega.{arith}
 use native.Mathlib.Decide.{ℕ-discrete}
 use native.Mathlib.Numerals.{add-one}
-use lib.Dec.{ltb, leb, eqb}
-use lib.ListN.{length, getD, set, length-set, List·getD-eq-default}
+use lib.ListN.{length, getD, length-set}
 use lib.Seq.{getD-set-same, getD-set-other}
 use borrow.Author.Tests.{lt-ltb, le-ltb, le-leb, eq-eqb, ne-eqb, eqb-true, ltb-true}
 use Rattle.base.specs.Pick.{pick}
 use Rattle.base.proofs.Cases.{lt-or-le}
-use Rattle.theory.specs.Sum.{sum}
 use Rattle.board.specs.declared.Link.{Link}
 use Rattle.board.specs.declared.Board.{Board}
 use Rattle.board.specs.Board.{WellFormed, Linked, linkAt, noLink, order}
 use Rattle.board.specs.Tests.{Decides, belowOf}
-use Rattle.board.proofs.LinkLaws.{clash, below-one, below-none, both-hold}
+use Rattle.board.proofs.LinkLaws.{below-one, below-none, both-hold}
 use Rattle.board.proofs.Ascending.{Parted, parted, rises}
 use Rattle.board.proofs.SameBoard.{orders, to-below}
 use Rattle.edits.specs.Edits.{linkOf, countBefore, placeOf, hasLinkOf, filled, insertedAt, insertedOf, removedAt, removedOf}

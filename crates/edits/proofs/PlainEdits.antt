@@ -4,7 +4,7 @@ use mathlib.Core.Path.{_≡_, refl, _∙_}
 use mathlib.Core.Logic.{⊎-elim, _≢_}
 use Prim.Native.Nat.{ℕ, _≤_, _<_}
 use native.Mathlib.Omega.{arith}
-use lib.ListN.{length, getD, set, length-set}
+use lib.ListN.{length, length-set}
 use lib.Seq.{getD-set-same, getD-set-other}
 use borrow.Author.Tests.{lt-ltb}
 use Rattle.base.specs.Pick.{pick}
@@ -13,7 +13,7 @@ use Rattle.curve.specs.declared.Ticks.{Ticks}
 use Rattle.curve.specs.declared.Curve.{Curve}
 use Rattle.curve.specs.Curve.{Good}
 use Rattle.board.specs.declared.Board.{Board}
-use Rattle.board.specs.Board.{WellFormed, curveAt, noCurve, blankCurve}
+use Rattle.board.specs.Board.{WellFormed, curveAt, noCurve}
 use Rattle.edits.specs.Edits.{withDeadlineOf, withCurveOf}
 use Rattle.edits.specs.Changes.{CurveChanged, DeadlineChanged}
 

@@ -1,15 +1,15 @@
 -- The ways through the functions.
 -- Assumes nothing.
-use mathlib.Core.Path.{_≡_, refl, sym, ap, _∙_}
+use mathlib.Core.Path.{_≡_, refl}
 use mathlib.Core.Bool.{Bool, true, false, not}
 use mathlib.Core.List.{List}
 use Prim.Native.Nat.{ℕ, zero, suc, _+_, _*_, _-_, _≤_, _<_}
 use native.Mathlib.Omega.{arith}
 use native.Mathlib.Numerals.{add-one}
-use lib.Dec.{ltb, leb, eqb, lit≤}
-use lib.ListN.{length, getD, set, List·getD-eq-default}
+use lib.Dec.{eqb, lit≤}
+use lib.ListN.{length, set, List·getD-eq-default}
 use lib.Seq.{set-out}
-use borrow.Author.Tests.{lt-ltb, le-ltb, le-leb, lt-leb, eq-eqb, ne-eqb, ltb-true, not-true, not-false}
+use borrow.Author.Tests.{lt-ltb, le-ltb, le-leb, lt-leb, eq-eqb, ne-eqb, not-true, not-false}
 use mathlib.Core.Logic.{⊎-elim}
 use mir.Syntax.{w64}
 use mir.Val.{Fits}
@@ -22,7 +22,7 @@ use Rattle.board.specs.declared.Board.{Board}
 use Rattle.board.specs.Board.{linkAt, noLink}
 use Rattle.board.specs.Tests.{belowOf}
 use Rattle.board.proofs.LinkLaws.{clash}
-use Rattle.edits.specs.Edits.{linkOf, countBefore, placeOf, hasLinkOf, filled, insertedAt, insertedOf, removedAt, removedOf, addable, withCurveOf, withLinkOf, withoutLinkOf}
+use Rattle.edits.specs.Edits.{linkOf, countBefore, placeOf, hasLinkOf, filled, insertedOf, removedAt, removedOf, addable, withCurveOf, withLinkOf, withoutLinkOf}
 
 -- ---- place_of
 abbrev Small : ℕ → Type 0

@@ -3,12 +3,12 @@
 use mathlib.Core.Path.{_≡_}
 use mathlib.Core.Logic.{_⊎_, _≢_}
 use Prim.Native.Nat.{ℕ, _+_, _≤_, _<_}
-use lib.ListN.{length, getD}
+use lib.ListN.{length}
 use Rattle.curve.specs.declared.Ticks.{Ticks}
 use Rattle.curve.specs.declared.Curve.{Curve}
 use Rattle.curve.specs.Curve.{Good}
 use Rattle.board.specs.declared.Board.{Board}
-use Rattle.board.specs.Board.{Linked, curveAt, noCurve, blankCurve}
+use Rattle.board.specs.Board.{Linked, curveAt, blankCurve}
 use Rattle.board.specs.Tests.{blankLinks}
 
 -- two links with the same ends

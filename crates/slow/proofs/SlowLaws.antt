@@ -13,7 +13,7 @@ use Rattle.theory.specs.Budget.{Timed, Budget}
 use Rattle.theory.proofs.TimedLaws.{timed-once, possible}
 use Rattle.board.specs.declared.Board.{Board}
 use Rattle.board.specs.Board.{usable, view}
-use Rattle.times.proofs.Lawful.{lawful}
+use Rattle.board.proofs.Lawful.{lawful}
 use Rattle.slow.specs.declared.ShownPath.{ShownPath}
 use Rattle.slow.specs.Slow.{PathTo, First, LastPart, Walked, Loopless, FastestEnds, shown, inTime, SlowOf, kept, exceeded}
 use Rattle.slow.proofs.PathLaws.{path-in, path-le, walked-path, walked-first, last-once, walked-once}

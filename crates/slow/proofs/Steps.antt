@@ -19,7 +19,7 @@ use Rattle.board.specs.declared.Link.{Link}
 use Rattle.board.specs.declared.Board.{Board}
 use Rattle.board.specs.Board.{noLink, linkAt, view, WellFormed}
 use Rattle.times.specs.Times.{wireOf}
-use Rattle.times.proofs.Lawful.{lawful}
+use Rattle.board.proofs.Lawful.{lawful}
 use Rattle.slow.specs.Slow.{Joins, First, LastPart, StepBack}
 use Rattle.slow.specs.Walk.{lastOf, backOf}
 

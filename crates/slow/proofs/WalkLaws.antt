@@ -15,7 +15,7 @@ use Rattle.theory.specs.Budget.{Timed}
 use Rattle.board.specs.declared.Board.{Board}
 use Rattle.board.specs.Board.{view, WellFormed}
 use Rattle.times.proofs.TableLaws.{table-at}
-use Rattle.times.proofs.Lawful.{lawful}
+use Rattle.board.proofs.Lawful.{lawful}
 use Rattle.slow.specs.declared.Trail.{Trail}
 use Rattle.slow.specs.Slow.{Walked, first, next}
 use Rattle.slow.specs.Walk.{backOf, backsOf, trailOf, pushedOf, walkOf}

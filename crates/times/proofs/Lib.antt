@@ -1,5 +1,4 @@
 pub mod TableLaws
 pub mod Loops
 pub mod Rounds
-pub mod Lawful
 pub mod TimesLaws

@@ -21,7 +21,7 @@ use Rattle.times.specs.declared.Schedule.{Schedule}
 use Rattle.times.specs.Times.{fastestsOf, slowestAt, slowestsOf, Joined, Timeable, TimesOf}
 use Rattle.times.proofs.TableLaws.{firsts-at}
 use Rattle.times.proofs.Loops.{wire-at}
-use Rattle.times.proofs.Lawful.{lawful}
+use Rattle.board.proofs.Lawful.{lawful}
 
 -- two lists of 64 places that hold the same at the parts and 0 past them
 same-places : (n : ℕ) (xs ys : List ℕ) → length xs ≡ 64 → length ys ≡ 64 → ((p : ℕ) → p < n → cells xs p ≡ cells ys p)

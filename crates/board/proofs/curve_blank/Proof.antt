@@ -1,33 +1,27 @@
+-- `board::curve_blank` meets its contract.
+-- Assumes nothing.
 use Rattle.board.specs.Tests.{curveBlank}
 use Rattle.base.specs.Pick.{pick}
 use Rattle.base.proofs.Tests.{tests}
 use borrow.Author.Needs.{needs}
 use Rattle.board.proofs.curve_blank.Statement.{statement}
 use Rattle.board.proofs.curve_blank.Tie as tie
-use Rattle.board.proofs.curve_blank.Reads as reads
-use Rattle.board.proofs.curve_blank.Lts as lts
-use Rattle.curve.proofs.Curve.is_good.Reads as is-good-reads
 
--- src/lib.rt:149:9
 returns : tie.Need-returns
 unfolding curveBlank pick
 returns c = search tests
 
--- src/lib.rt:152:9
 returns-2 : tie.Need-returns-2
 unfolding curveBlank pick
 returns-2 c = search tests
 
--- src/lib.rt:155:9
 returns-3 : tie.Need-returns-3
 unfolding curveBlank pick
 returns-3 c = search tests
 
--- src/lib.rt:160:5
 is-good-requires : tie.Need-is-good-requires
 is-good-requires c κs = search needs
 
--- src/lib.rt:145:1
 returns-4 : tie.Need-returns-4
 unfolding curveBlank pick
 returns-4 c = search tests

@@ -1,36 +1,28 @@
+-- `board::curve_good` meets its contract.
+-- Assumes nothing.
 use Rattle.board.specs.Tests.{curveTest}
 use Rattle.base.specs.Pick.{pick}
 use Rattle.base.proofs.Tests.{tests}
 use borrow.Author.Needs.{needs}
 use Rattle.board.proofs.curve_good.Statement.{statement}
 use Rattle.board.proofs.curve_good.Tie as tie
-use Rattle.board.proofs.curve_good.Reads as reads
-use Rattle.board.proofs.curve_good.Lts as lts
-use Rattle.board.proofs.curve_blank.Reads as curve-blank-reads
-use Rattle.curve.proofs.Curve.is_good.Reads as is-good-reads
 
--- src/lib.rt:168:13
 mul-c : tie.Need-mul-c
 mul-c c = search needs
 
--- src/lib.rt:168:13
 element-copy-out-c : tie.Need-element-copy-out-c
 element-copy-out-c c = search needs
 
--- src/lib.rt:170:9
 is-good-requires : tie.Need-is-good-requires
 is-good-requires c κs = search needs
 
--- src/lib.rt:170:9
 returns : tie.Need-returns
 unfolding curveTest pick
 returns c = search tests
 
--- src/lib.rt:172:5
 curve-blank-requires : tie.Need-curve-blank-requires
 curve-blank-requires c κs = search needs
 
--- src/lib.rt:164:1
 returns-2 : tie.Need-returns-2
 unfolding curveTest pick
 returns-2 c = search tests

@@ -1,22 +1,16 @@
+-- `board::empty` meets its contract.
+-- Assumes nothing.
 use Rattle.board.proofs.Steps.{emptied}
-use Rattle.board.specs.Tests.{emptyOf}
 use borrow.Author.Needs.{needs}
 use Rattle.board.proofs.empty.Statement.{statement}
 use Rattle.board.proofs.empty.Tie as tie
-use Rattle.board.proofs.empty.Reads as reads
-use Rattle.board.proofs.empty.Lts as lts
-use Rattle.board.proofs.blank_curves.Reads as blank-curves-reads
-use Rattle.board.proofs.blank_links.Reads as blank-links-reads
 
--- src/lib.rt:60:9
 blank-curves-requires : tie.Need-blank-curves-requires
 blank-curves-requires c κs = search needs
 
--- src/lib.rt:61:9
 blank-links-requires : tie.Need-blank-links-requires
 blank-links-requires c κs = search needs
 
--- src/lib.rt:57:1
 returns : tie.Need-returns
 returns c = search (emptied)
 

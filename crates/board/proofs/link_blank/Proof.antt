@@ -1,18 +1,15 @@
+-- `board::link_blank` meets its contract.
+-- Assumes nothing.
 use Rattle.board.specs.Tests.{linkBlank}
 use Rattle.base.specs.Pick.{pick}
 use Rattle.base.proofs.Tests.{tests}
-use borrow.Author.Needs.{needs}
 use Rattle.board.proofs.link_blank.Statement.{statement}
 use Rattle.board.proofs.link_blank.Tie as tie
-use Rattle.board.proofs.link_blank.Reads as reads
-use Rattle.board.proofs.link_blank.Lts as lts
 
--- src/lib.rt:94:9
 returns : tie.Need-returns
 unfolding linkBlank pick
 returns c = search tests
 
--- src/lib.rt:90:1
 returns-2 : tie.Need-returns-2
 unfolding linkBlank pick
 returns-2 c = search tests

@@ -1,3 +1,5 @@
+-- `board::link_held` meets its contract.
+-- Assumes nothing.
 use Rattle.board.proofs.Steps.{in-order}
 use Rattle.board.specs.Tests.{linkHeld}
 use Rattle.base.specs.Pick.{pick}
@@ -5,55 +7,41 @@ use Rattle.base.proofs.Tests.{tests}
 use borrow.Author.Needs.{needs}
 use Rattle.board.proofs.link_held.Statement.{statement}
 use Rattle.board.proofs.link_held.Tie as tie
-use Rattle.board.proofs.link_held.Reads as reads
-use Rattle.board.proofs.link_held.Lts as lts
-use Rattle.board.proofs.below.Reads as below-reads
 
--- src/lib.rt:104:13
 mul-x : tie.Need-mul-x
 mul-x c = search needs
 
--- src/lib.rt:104:13
 element-copy-out-x : tie.Need-element-copy-out-x
 element-copy-out-x c = search needs
 
--- src/lib.rt:106:9
 returns : tie.Need-returns
 unfolding linkHeld pick
 returns c = search tests
 
--- src/lib.rt:109:9
 returns-2 : tie.Need-returns-2
 unfolding linkHeld pick
 returns-2 c = search tests
 
--- src/lib.rt:112:9
 returns-3 : tie.Need-returns-3
 unfolding linkHeld pick
 returns-3 c = search tests
 
--- src/lib.rt:115:9
 returns-4 : tie.Need-returns-4
 unfolding linkHeld pick
 returns-4 c = search tests
 
--- src/lib.rt:117:25
 sub-before : tie.Need-sub-before
 sub-before c = search needs
 
--- src/lib.rt:117:18
 mul-before : tie.Need-mul-before
 mul-before c = search needs
 
--- src/lib.rt:117:18
 element-copy-out-before : tie.Need-element-copy-out-before
 element-copy-out-before c = search needs
 
--- src/lib.rt:118:5
 below-requires : tie.Need-below-requires
 below-requires c κs = search needs
 
--- src/lib.rt:100:1
 returns-5 : tie.Need-returns-5
 returns-5 c = search (in-order)
 

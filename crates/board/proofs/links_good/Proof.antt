@@ -1,3 +1,5 @@
+-- `board::links_good` meets its contract.
+-- Assumes nothing.
 use mathlib.Core.Path.{_≡_}
 use Prim.Native.Nat.{_≤_, _-_}
 use Rattle.board.specs.Tests.{linkTest, linksTest}
@@ -6,10 +8,6 @@ use Rattle.board.proofs.Steps.{none-tested, one-more, all-tested}
 use borrow.Author.Needs.{needs}
 use Rattle.board.proofs.links_good.Statement.{statement}
 use Rattle.board.proofs.links_good.Tie as tie
-use Rattle.board.proofs.links_good.Reads as reads
-use Rattle.board.proofs.links_good.Lts as lts
-use Rattle.board.proofs.both_hold.Reads as both-hold-reads
-use Rattle.board.proofs.link_good.Reads as link-good-reads
 
 abbrev Inv-loop : tie.InvT-loop
 Inv-loop b good₀ l₀ good l = (l ≤ 256) × (good ≡ every l (linkTest b))
@@ -17,31 +15,24 @@ Inv-loop b good₀ l₀ good l = (l ≤ 256) × (good ≡ every l (linkTest b))
 abbrev μ-loop : tie.MeasureT-loop
 μ-loop b good₀ l₀ good l = 256 - l
 
--- src/lib.rt:139:5
 loop-holds : tie.Need-loop-holds Inv-loop μ-loop
 loop-holds c = (search needs, none-tested _)
 
--- src/lib.rt:140:32
 link-good-requires : tie.Need-link-good-requires Inv-loop μ-loop
 link-good-requires c κs = search needs
 
--- src/lib.rt:140:9
 both-hold-requires : tie.Need-both-hold-requires Inv-loop μ-loop
 both-hold-requires c κs = search needs
 
--- src/lib.rt:141:13
 add-l : tie.Need-add-l Inv-loop μ-loop
 add-l c = search needs
 
--- src/lib.rt:139:5
 loop-less : tie.Need-loop-less Inv-loop μ-loop
 loop-less c = search needs
 
--- src/lib.rt:139:5
 loop-again : tie.Need-loop-again Inv-loop μ-loop
 loop-again c = (search needs, search (one-more))
 
--- src/lib.rt:134:1
 returns : tie.Need-returns Inv-loop μ-loop
 unfolding linksTest
 returns c = search (all-tested)

@@ -1,46 +1,35 @@
+-- `board::well_formed` meets its contract.
+-- Assumes nothing.
 use Rattle.board.proofs.Steps.{length-mapped}
 use Rattle.board.proofs.TestLaws.{deadline-low, deadline-high, parts-none, parts-many, links-many, curves-bad, links-decide}
 use borrow.Author.Needs.{needs}
 use Rattle.board.proofs.well_formed.Statement.{statement}
 use Rattle.board.proofs.well_formed.Tie as tie
-use Rattle.board.proofs.well_formed.Reads as reads
-use Rattle.board.proofs.well_formed.Lts as lts
-use Rattle.board.proofs.curves_good.Reads as curves-good-reads
-use Rattle.board.proofs.links_good.Reads as links-good-reads
 
--- src/lib.rt:193:9
 returns : tie.Need-returns
 returns c = search (deadline-low, deadline-high, parts-none, parts-many, links-many, curves-bad)
 
--- src/lib.rt:196:9
 returns-2 : tie.Need-returns-2
 returns-2 c = search (deadline-low, deadline-high, parts-none, parts-many, links-many, curves-bad)
 
--- src/lib.rt:199:9
 returns-3 : tie.Need-returns-3
 returns-3 c = search (deadline-low, deadline-high, parts-none, parts-many, links-many, curves-bad)
 
--- src/lib.rt:202:9
 returns-4 : tie.Need-returns-4
 returns-4 c = search (deadline-low, deadline-high, parts-none, parts-many, links-many, curves-bad)
 
--- src/lib.rt:205:9
 returns-5 : tie.Need-returns-5
 returns-5 c = search (deadline-low, deadline-high, parts-none, parts-many, links-many, curves-bad)
 
--- src/lib.rt:207:9
 curves-good-requires : tie.Need-curves-good-requires
 curves-good-requires c κs = search needs
 
--- src/lib.rt:208:9
 returns-6 : tie.Need-returns-6
 returns-6 c = search (deadline-low, deadline-high, parts-none, parts-many, links-many, curves-bad)
 
--- src/lib.rt:210:5
 links-good-requires : tie.Need-links-good-requires
 links-good-requires c κs = search needs
 
--- src/lib.rt:189:1
 returns-7 : tie.Need-returns-7
 returns-7 c = links-decide _ _ _ (search (length-mapped)) (search (length-mapped)) (search needs) (search needs) (search needs) (search needs) (search needs) (c .before .before .curves-good .ensures) (search needs) (c .links-good .ensures)
 

@@ -1,3 +1,5 @@
+-- `edits::inserted` meets its contract.
+-- Assumes nothing.
 use mathlib.Core.Path.{_≡_}
 use Prim.Native.Nat.{_≤_, _-_}
 use Rattle.edits.specs.Edits.{filled, insertedAt, insertedOf}
@@ -5,9 +7,6 @@ use Rattle.edits.proofs.Ways.{none-filled, more-filled, all-filled}
 use borrow.Author.Needs.{needs}
 use Rattle.edits.proofs.inserted.Statement.{statement}
 use Rattle.edits.proofs.inserted.Tie as tie
-use Rattle.edits.proofs.inserted.Reads as reads
-use Rattle.edits.proofs.inserted.Lts as lts
-use Rattle.edits.proofs.inserted_at.Reads as inserted-at-reads
 
 abbrev Inv-loop : tie.InvT-loop
 Inv-loop old at x new₀ k₀ new k = (k ≤ 256) × (new ≡ filled old (insertedAt old at x) k)
@@ -15,35 +14,27 @@ Inv-loop old at x new₀ k₀ new k = (k ≤ 256) × (new ≡ filled old (insert
 abbrev μ-loop : tie.MeasureT-loop
 μ-loop old at x new₀ k₀ new k = 256 - k
 
--- src/lib.rt:69:5
 loop-holds : tie.Need-loop-holds Inv-loop μ-loop
 loop-holds c = (search needs, none-filled _ _)
 
--- src/lib.rt:70:18
 inserted-at-requires : tie.Need-inserted-at-requires Inv-loop μ-loop
 inserted-at-requires c κs = search needs
 
--- src/lib.rt:70:9
 mul-new : tie.Need-mul-new Inv-loop μ-loop
 mul-new c = search needs
 
--- src/lib.rt:70:9
 array-set-from-new : tie.Need-array-set-from-new Inv-loop μ-loop
 array-set-from-new c = search needs
 
--- src/lib.rt:71:13
 add-k : tie.Need-add-k Inv-loop μ-loop
 add-k c = search needs
 
--- src/lib.rt:69:5
 loop-less : tie.Need-loop-less Inv-loop μ-loop
 loop-less c = search needs
 
--- src/lib.rt:69:5
 loop-again : tie.Need-loop-again Inv-loop μ-loop
 loop-again c = (search needs, search (more-filled))
 
--- src/lib.rt:64:1
 returns : tie.Need-returns Inv-loop μ-loop
 unfolding insertedOf
 returns c = search (all-filled)

@@ -1,3 +1,5 @@
+-- `edits::place_of` meets its contract.
+-- Assumes nothing.
 use mathlib.Core.Path.{_≡_}
 use Prim.Native.Nat.{_≤_, _-_}
 use Rattle.edits.specs.Edits.{countBefore}
@@ -5,9 +7,6 @@ use Rattle.edits.proofs.Ways.{too-many, none-before, one-more, place-fi
 use borrow.Author.Needs.{needs}
 use Rattle.edits.proofs.place_of.Statement.{statement}
 use Rattle.edits.proofs.place_of.Tie as tie
-use Rattle.edits.proofs.place_of.Reads as reads
-use Rattle.edits.proofs.place_of.Lts as lts
-use Rattle.board.proofs.below.Reads as below-reads
 
 abbrev Inv-loop : tie.InvT-loop
 Inv-loop x b n place₀ l₀ place l = (l ≤ n) × (place ≡ countBefore b x l)
@@ -15,43 +14,33 @@ Inv-loop x b n place₀ l₀ place l = (l ≤ n) × (place ≡ countBefore b x l
 abbrev μ-loop : tie.MeasureT-loop
 μ-loop x b n place₀ l₀ place l = n - l
 
--- src/lib.rt:18:9
 returns : tie.Need-returns Inv-loop μ-loop
 returns c = search (too-many)
 
--- src/lib.rt:22:5
 loop-holds : tie.Need-loop-holds Inv-loop μ-loop
 loop-holds c = (search needs, none-before _ _)
 
--- src/lib.rt:23:21
 mul-other : tie.Need-mul-other Inv-loop μ-loop
 mul-other c = search needs
 
--- src/lib.rt:23:21
 element-copy-out-other : tie.Need-element-copy-out-other Inv-loop μ-loop
 element-copy-out-other c = search needs
 
--- src/lib.rt:24:25
 below-requires : tie.Need-below-requires Inv-loop μ-loop
 below-requires c κs = search needs
 
--- src/lib.rt:24:17
 add-place : tie.Need-add-place Inv-loop μ-loop
 add-place c = search (place-fits)
 
--- src/lib.rt:25:13
 add-l : tie.Need-add-l Inv-loop μ-loop
 add-l c = search needs
 
--- src/lib.rt:22:5
 loop-less : tie.Need-loop-less Inv-loop μ-loop
 loop-less c = search needs
 
--- src/lib.rt:22:5
 loop-again : tie.Need-loop-again Inv-loop μ-loop
 loop-again c = (search needs, search (one-more))
 
--- src/lib.rt:13:1
 returns-2 : tie.Need-returns-2 Inv-loop μ-loop
 returns-2 c = search (all-counted)
 

@@ -1,3 +1,5 @@
+-- `edits::removed` meets its contract.
+-- Assumes nothing.
 use mathlib.Core.Path.{_≡_}
 use Prim.Native.Nat.{_≤_, _-_}
 use Rattle.edits.specs.Edits.{filled, removedAt, removedOf}
@@ -5,9 +7,6 @@ use Rattle.edits.proofs.Ways.{none-filled, more-filled, all-filled}
 use borrow.Author.Needs.{needs}
 use Rattle.edits.proofs.removed.Statement.{statement}
 use Rattle.edits.proofs.removed.Tie as tie
-use Rattle.edits.proofs.removed.Reads as reads
-use Rattle.edits.proofs.removed.Lts as lts
-use Rattle.edits.proofs.removed_at.Reads as removed-at-reads
 
 abbrev Inv-loop : tie.InvT-loop
 Inv-loop old at new₀ k₀ new k = (k ≤ 256) × (new ≡ filled old (removedAt old at) k)
@@ -15,35 +14,27 @@ Inv-loop old at new₀ k₀ new k = (k ≤ 256) × (new ≡ filled old (removedA
 abbrev μ-loop : tie.MeasureT-loop
 μ-loop old at new₀ k₀ new k = 256 - k
 
--- src/lib.rt:96:5
 loop-holds : tie.Need-loop-holds Inv-loop μ-loop
 loop-holds c = (search needs, none-filled _ _)
 
--- src/lib.rt:97:18
 removed-at-requires : tie.Need-removed-at-requires Inv-loop μ-loop
 removed-at-requires c κs = search needs
 
--- src/lib.rt:97:9
 mul-new : tie.Need-mul-new Inv-loop μ-loop
 mul-new c = search needs
 
--- src/lib.rt:97:9
 array-set-from-new : tie.Need-array-set-from-new Inv-loop μ-loop
 array-set-from-new c = search needs
 
--- src/lib.rt:98:13
 add-k : tie.Need-add-k Inv-loop μ-loop
 add-k c = search needs
 
--- src/lib.rt:96:5
 loop-less : tie.Need-loop-less Inv-loop μ-loop
 loop-less c = search needs
 
--- src/lib.rt:96:5
 loop-again : tie.Need-loop-again Inv-loop μ-loop
 loop-again c = (search needs, search (more-filled))
 
--- src/lib.rt:91:1
 returns : tie.Need-returns Inv-loop μ-loop
 unfolding removedOf
 returns c = search (all-filled)

@@ -1,3 +1,5 @@
+-- `edits::removed_at` meets its contract.
+-- Assumes nothing.
 use Rattle.edits.proofs.Ways.{last-gone}
 use Rattle.edits.specs.Edits.{removedAt}
 use Rattle.base.specs.Pick.{pick}
@@ -5,40 +7,30 @@ use Rattle.base.proofs.Tests.{tests}
 use borrow.Author.Needs.{needs}
 use Rattle.edits.proofs.removed_at.Statement.{statement}
 use Rattle.edits.proofs.removed_at.Tie as tie
-use Rattle.edits.proofs.removed_at.Reads as reads
-use Rattle.edits.proofs.removed_at.Lts as lts
 
--- src/lib.rt:82:16
 mul-result : tie.Need-mul-result
 mul-result c = search needs
 
--- src/lib.rt:82:16
 array-copy-out-result : tie.Need-array-copy-out-result
 array-copy-out-result c = search needs
 
--- src/lib.rt:82:9
 returns : tie.Need-returns
 unfolding removedAt pick
 returns c = search tests
 
--- src/lib.rt:85:20
 add-result : tie.Need-add-result
 add-result c = search needs
 
--- src/lib.rt:85:16
 mul-result-2 : tie.Need-mul-result-2
 mul-result-2 c = search needs
 
--- src/lib.rt:85:16
 array-copy-out-result-2 : tie.Need-array-copy-out-result-2
 array-copy-out-result-2 c = search needs
 
--- src/lib.rt:85:9
 returns-2 : tie.Need-returns-2
 unfolding removedAt pick
 returns-2 c = search tests
 
--- src/lib.rt:77:1
 returns-3 : tie.Need-returns-3
 returns-3 c = last-gone _ _ _ (search needs) (search needs) (search needs)
 

@@ -1,3 +1,5 @@
+-- `slow::walk` meets its contract. The parts left to visit fall at each call.
+-- Assumes nothing.
 use Rattle.slow.proofs.Ways.{spent, no-part, onward, less}
 use borrow.Author.Needs.{needs}
 use Prim.Native.Nat.{ℕ, _<_}
@@ -20,7 +22,6 @@ walk-at t = and 0 walk-kinds.ps (is 0 walk-kinds.ps μ-walk t) walk.Pre
 abbrev walk-below : ℕ → In 0 walk-kinds.ps
 walk-below t = and 0 walk-kinds.ps (falls 0 walk-kinds.ps _<_ μ-walk t) walk.Pre
 
--- src/lib.rt:122:9
 walk-no-parts-requires : (t : ℕ) → walk-lts.Need-no-parts-requires (
   no-parts-reads.Asked,
   no-parts-reads.Learnt,
@@ -31,7 +32,6 @@ walk-no-parts-requires : (t : ℕ) → walk-lts.Need-no-parts-requires (
 ) (walk-at t) walk.Post
 walk-no-parts-requires t c κs = search needs
 
--- src/lib.rt:122:9
 walk-returns : (t : ℕ) → walk-lts.Need-returns (
   no-parts-reads.Asked,
   no-parts-reads.Learnt,
@@ -42,7 +42,6 @@ walk-returns : (t : ℕ) → walk-lts.Need-returns (
 ) (walk-at t) walk.Post
 walk-returns t c = search (spent, no-part, onward)
 
--- src/lib.rt:125:9
 walk-no-parts-requires-2 : (t : ℕ) → walk-lts.Need-no-parts-requires-2 (
   no-parts-reads.Asked,
   no-parts-reads.Learnt,
@@ -53,7 +52,6 @@ walk-no-parts-requires-2 : (t : ℕ) → walk-lts.Need-no-parts-requires-2 (
 ) (walk-at t) walk.Post
 walk-no-parts-requires-2 t c κs = search needs
 
--- src/lib.rt:125:9
 walk-returns-2 : (t : ℕ) → walk-lts.Need-returns-2 (
   no-parts-reads.Asked,
   no-parts-reads.Learnt,
@@ -64,7 +62,6 @@ walk-returns-2 : (t : ℕ) → walk-lts.Need-returns-2 (
 ) (walk-at t) walk.Post
 walk-returns-2 t c = search (spent, no-part, onward)
 
--- src/lib.rt:127:29
 walk-mul-walk : (t : ℕ) → walk-lts.Need-mul-walk (
   no-parts-reads.Asked,
   no-parts-reads.Learnt,
@@ -75,7 +72,6 @@ walk-mul-walk : (t : ℕ) → walk-lts.Need-mul-walk (
 ) (walk-at t) walk.Post
 walk-mul-walk t c = search needs
 
--- src/lib.rt:127:29
 walk-array-read-walk : (t : ℕ) → walk-lts.Need-array-read-walk (
   no-parts-reads.Asked,
   no-parts-reads.Learnt,
@@ -86,7 +82,6 @@ walk-array-read-walk : (t : ℕ) → walk-lts.Need-array-read-walk (
 ) (walk-at t) walk.Post
 walk-array-read-walk t c = search needs
 
--- src/lib.rt:127:39
 walk-sub-walk : (t : ℕ) → walk-lts.Need-sub-walk (
   no-parts-reads.Asked,
   no-parts-reads.Learnt,
@@ -97,7 +92,6 @@ walk-sub-walk : (t : ℕ) → walk-lts.Need-sub-walk (
 ) (walk-at t) walk.Post
 walk-sub-walk t c = search needs
 
--- src/lib.rt:127:9
 walk-walk-requires : (t : ℕ) → walk-lts.Need-walk-requires (
   no-parts-reads.Asked,
   no-parts-reads.Learnt,
@@ -108,7 +102,6 @@ walk-walk-requires : (t : ℕ) → walk-lts.Need-walk-requires (
 ) (walk-at t) walk.Post
 walk-walk-requires t c κs = search (less, tt)
 
--- src/lib.rt:128:5
 walk-pushed-requires : (t : ℕ) → walk-lts.Need-pushed-requires (
   no-parts-reads.Asked,
   no-parts-reads.Learnt,
@@ -119,7 +112,6 @@ walk-pushed-requires : (t : ℕ) → walk-lts.Need-pushed-requires (
 ) (walk-at t) walk.Post
 walk-pushed-requires t c κs = search needs
 
--- src/lib.rt:118:1
 walk-returns-3 : (t : ℕ) → walk-lts.Need-returns-3 (
   no-parts-reads.Asked,
   no-parts-reads.Learnt,

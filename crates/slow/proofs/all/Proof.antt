@@ -1,3 +1,5 @@
+-- `slow::all` meets its contract.
+-- Assumes nothing.
 use Rattle.times.specs.Times.{table}
 use mathlib.Core.Path.{refl}
 use borrow.Author.Needs.{needs}
@@ -6,7 +8,6 @@ use Rattle.slow.proofs.all.Tie as tie
 use Rattle.slow.proofs.all.Reads as reads
 use Rattle.slow.proofs.all.Lts as lts
 
--- src/lib.rt:45:1
 returns : tie.Need-returns
 unfolding table
 returns c = refl

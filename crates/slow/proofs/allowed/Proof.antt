@@ -1,3 +1,5 @@
+-- `slow::allowed` meets its contract.
+-- Assumes nothing.
 use Rattle.board.specs.Board.{usable}
 use mathlib.Core.Path.{refl}
 use borrow.Author.Needs.{needs}
@@ -6,7 +8,6 @@ use Rattle.slow.proofs.allowed.Tie as tie
 use Rattle.slow.proofs.allowed.Reads as reads
 use Rattle.slow.proofs.allowed.Lts as lts
 
--- src/lib.rt:33:1
 returns : tie.Need-returns
 unfolding usable
 returns c = refl

@@ -1,3 +1,5 @@
+-- `slow::last_part` meets its contract. The invariant: the last part is that of the first k parts.
+-- Assumes nothing.
 use Rattle.times.proofs.Loops.{scaled}
 use Rattle.slow.proofs.Ways.{last-none, last-in, last-more, last-done}
 use Rattle.slow.specs.Walk.{lastOf}
@@ -16,43 +18,33 @@ Inv-loop n e last₀ k₀ last k = (k ≤ n) × (last ≡ lastOf e k)
 abbrev μ-loop : tie.MeasureT-loop
 μ-loop n e last₀ k₀ last k = n - k
 
--- src/lib.rt:65:5
 loop-holds : tie.Need-loop-holds Inv-loop μ-loop
 loop-holds c = (search needs, last-none _)
 
--- src/lib.rt:66:28
 mul-later : tie.Need-mul-later Inv-loop μ-loop
 mul-later c = search (scaled, last-in, needs)
 
--- src/lib.rt:66:28
 array-read-later : tie.Need-array-read-later Inv-loop μ-loop
 array-read-later c = search (scaled, last-in, needs)
 
--- src/lib.rt:66:40
 mul-later-2 : tie.Need-mul-later-2 Inv-loop μ-loop
 mul-later-2 c = search (scaled, last-in, needs)
 
--- src/lib.rt:66:40
 array-read-later-2 : tie.Need-array-read-later-2 Inv-loop μ-loop
 array-read-later-2 c = search (scaled, last-in, needs)
 
--- src/lib.rt:66:9
 later-requires : tie.Need-later-requires Inv-loop μ-loop
 later-requires c κs = search needs
 
--- src/lib.rt:67:13
 add-k : tie.Need-add-k Inv-loop μ-loop
 add-k c = search needs
 
--- src/lib.rt:65:5
 loop-less : tie.Need-loop-less Inv-loop μ-loop
 loop-less c = search needs
 
--- src/lib.rt:65:5
 loop-again : tie.Need-loop-again Inv-loop μ-loop
 loop-again c = (search needs, search (last-more))
 
--- src/lib.rt:59:1
 returns : tie.Need-returns Inv-loop μ-loop
 returns c = search (last-done)
 

@@ -1,3 +1,5 @@
+-- `slow::no_parts` meets its contract.
+-- Assumes nothing.
 use Rattle.slow.proofs.Ways.{no-trail}
 use borrow.Author.Needs.{needs}
 use Rattle.slow.proofs.no_parts.Statement.{statement}
@@ -6,11 +8,9 @@ use Rattle.slow.proofs.no_parts.Reads as reads
 use Rattle.slow.proofs.no_parts.Lts as lts
 use Rattle.slow.proofs.all.Reads as all-reads
 
--- src/lib.rt:99:9
 all-requires : tie.Need-all-requires
 all-requires c κs = search needs
 
--- src/lib.rt:96:1
 returns : tie.Need-returns
 returns c = search (no-trail)
 

@@ -1,3 +1,5 @@
+-- `slow::pushed` meets its contract.
+-- Assumes nothing.
 use Rattle.slow.specs.Walk.{pushedOf}
 use Rattle.base.proofs.Tests.{tests}
 use Rattle.base.specs.Pick.{pick}
@@ -7,24 +9,19 @@ use Rattle.slow.proofs.pushed.Tie as tie
 use Rattle.slow.proofs.pushed.Reads as reads
 use Rattle.slow.proofs.pushed.Lts as lts
 
--- src/lib.rt:109:9
 returns : tie.Need-returns
 unfolding pushedOf pick
 returns c = search tests
 
--- src/lib.rt:112:5
 mul-next : tie.Need-mul-next
 mul-next c = search needs
 
--- src/lib.rt:112:5
 element-write-next : tie.Need-element-write-next
 element-write-next c = search needs
 
--- src/lib.rt:113:18
 add-next : tie.Need-add-next
 add-next c = search needs
 
--- src/lib.rt:104:1
 returns-2 : tie.Need-returns-2
 unfolding pushedOf pick
 returns-2 c = search tests

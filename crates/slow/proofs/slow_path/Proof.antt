@@ -1,3 +1,5 @@
+-- `slow::slow_path` meets its contract.
+-- Assumes nothing.
 use Rattle.slow.proofs.SlowWays.{timeable, last-place, joined, in-time, too-slow}
 use Rattle.times.proofs.Loops.{scaled}
 use borrow.Author.Needs.{needs}
@@ -13,47 +15,36 @@ use Rattle.slow.proofs.walk.Reads as walk-reads
 use Rattle.times.proofs.fastest_delays.Reads as fastest-delays-reads
 use Rattle.times.proofs.times_of.Reads as times-of-reads
 
--- src/lib.rt:139:9
 fastest-delays-requires : tie.Need-fastest-delays-requires
 fastest-delays-requires c κs = search needs
 
--- src/lib.rt:140:9
 times-of-requires : tie.Need-times-of-requires
 times-of-requires c κs = search (timeable)
 
--- src/lib.rt:142:9
 last-part-requires : tie.Need-last-part-requires
 last-part-requires c κs = search needs
 
--- src/lib.rt:143:17
 mul-ticks : tie.Need-mul-ticks
 mul-ticks c = search (scaled, last-place, needs)
 
--- src/lib.rt:143:17
 array-read-ticks : tie.Need-array-read-ticks
 array-read-ticks c = search (scaled, last-place, needs)
 
--- src/lib.rt:144:17
 allowed-requires : tie.Need-allowed-requires
 allowed-requires c κs = search needs
 
--- src/lib.rt:145:13
 all-requires : tie.Need-all-requires
 all-requires c κs = search needs
 
--- src/lib.rt:146:9
 returns : tie.Need-returns
 returns c = search (in-time)
 
--- src/lib.rt:156:9
 backs-requires : tie.Need-backs-requires
 backs-requires c κs = search (joined)
 
--- src/lib.rt:157:9
 walk-requires : tie.Need-walk-requires
 walk-requires c κs = search needs
 
--- src/lib.rt:134:1
 returns-2 : tie.Need-returns-2
 returns-2 c = search (too-slow)
 

@@ -1,3 +1,5 @@
+-- `times::ends` meets its contract. The invariant: the ends are those of the first k parts.
+-- Assumes nothing.
 use Rattle.times.proofs.Loops.{end-fits, ends-none, ends-more, ends-done}
 use Rattle.times.specs.Times.{endsOf}
 use Prim.Native.Nat.{_≤_, _-_}
@@ -15,55 +17,42 @@ Inv-loop n s delay e₀ k₀ e k = (k ≤ n) × (e ≡ endsOf s delay k)
 abbrev μ-loop : tie.MeasureT-loop
 μ-loop n s delay e₀ k₀ e k = n - k
 
--- src/lib.rt:56:17
 zeros-requires : tie.Need-zeros-requires Inv-loop μ-loop
 zeros-requires c κs = search needs
 
--- src/lib.rt:58:5
 loop-holds : tie.Need-loop-holds Inv-loop μ-loop
 loop-holds c = (search needs, search (ends-none))
 
--- src/lib.rt:59:16
 mul-e : tie.Need-mul-e Inv-loop μ-loop
 mul-e c = search needs
 
--- src/lib.rt:59:16
 array-read-e : tie.Need-array-read-e Inv-loop μ-loop
 array-read-e c = search needs
 
--- src/lib.rt:59:23
 mul-e-2 : tie.Need-mul-e-2 Inv-loop μ-loop
 mul-e-2 c = search needs
 
--- src/lib.rt:59:23
 array-read-e-2 : tie.Need-array-read-e-2 Inv-loop μ-loop
 array-read-e-2 c = search needs
 
--- src/lib.rt:59:16
 add-e : tie.Need-add-e Inv-loop μ-loop
 add-e c = search (end-fits)
 
--- src/lib.rt:59:9
 mul-e-3 : tie.Need-mul-e-3 Inv-loop μ-loop
 mul-e-3 c = search needs
 
--- src/lib.rt:59:9
 array-write-e : tie.Need-array-write-e Inv-loop μ-loop
 array-write-e c = search needs
 
--- src/lib.rt:60:13
 add-k : tie.Need-add-k Inv-loop μ-loop
 add-k c = search needs
 
--- src/lib.rt:58:5
 loop-less : tie.Need-loop-less Inv-loop μ-loop
 loop-less c = search needs
 
--- src/lib.rt:58:5
 loop-again : tie.Need-loop-again Inv-loop μ-loop
 loop-again c = (search needs, search (ends-more))
 
--- src/lib.rt:52:1
 returns : tie.Need-returns Inv-loop μ-loop
 returns c = search (ends-done)
 

@@ -1,3 +1,5 @@
+-- `times::fastest_delays` meets its contract. The invariant: the first k places hold the fastest delays of their parts.
+-- Assumes nothing.
 use Rattle.times.proofs.Loops.{fastest-none, fastest-more, fastest-done}
 use Rattle.times.specs.Times.{firsts}
 use Rattle.board.specs.Board.{view}
@@ -16,43 +18,33 @@ Inv-loop b n d₀ k₀ d k = (k ≤ n) × (d ≡ firsts k (view b .fastest))
 abbrev μ-loop : tie.MeasureT-loop
 μ-loop b n d₀ k₀ d k = n - k
 
--- src/lib.rt:40:17
 zeros-requires : tie.Need-zeros-requires Inv-loop μ-loop
 zeros-requires c κs = search needs
 
--- src/lib.rt:42:5
 loop-holds : tie.Need-loop-holds Inv-loop μ-loop
 loop-holds c = (search needs, search (fastest-none))
 
--- src/lib.rt:43:16
 mul-d : tie.Need-mul-d Inv-loop μ-loop
 mul-d c = search needs
 
--- src/lib.rt:43:16
 element-copy-out-d : tie.Need-element-copy-out-d Inv-loop μ-loop
 element-copy-out-d c = search needs
 
--- src/lib.rt:43:9
 mul-d-2 : tie.Need-mul-d-2 Inv-loop μ-loop
 mul-d-2 c = search needs
 
--- src/lib.rt:43:9
 array-write-d : tie.Need-array-write-d Inv-loop μ-loop
 array-write-d c = search needs
 
--- src/lib.rt:44:13
 add-k : tie.Need-add-k Inv-loop μ-loop
 add-k c = search needs
 
--- src/lib.rt:42:5
 loop-less : tie.Need-loop-less Inv-loop μ-loop
 loop-less c = search needs
 
--- src/lib.rt:42:5
 loop-again : tie.Need-loop-again Inv-loop μ-loop
 loop-again c = (search needs, search (fastest-more))
 
--- src/lib.rt:35:1
 returns : tie.Need-returns Inv-loop μ-loop
 returns c = search (fastest-done)
 

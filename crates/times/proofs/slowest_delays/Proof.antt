@@ -1,3 +1,5 @@
+-- `times::slowest_delays` meets its contract. The invariant: the first k places hold the slowest delays of their parts.
+-- Assumes nothing.
 use Rattle.times.proofs.Loops.{curve-good, slowest-none, slowest-more, slowest-done}
 use Rattle.times.specs.Times.{firsts, slowestAt}
 use Prim.Native.Nat.{_≤_, _-_}
@@ -16,47 +18,36 @@ Inv-loop b n d₀ k₀ d k = (k ≤ n) × (d ≡ firsts k (slowestAt b))
 abbrev μ-loop : tie.MeasureT-loop
 μ-loop b n d₀ k₀ d k = n - k
 
--- src/lib.rt:55:17
 zeros-requires : tie.Need-zeros-requires Inv-loop μ-loop
 zeros-requires c κs = search needs
 
--- src/lib.rt:57:5
 loop-holds : tie.Need-loop-holds Inv-loop μ-loop
 loop-holds c = (search needs, search (slowest-none))
 
--- src/lib.rt:58:17
 mul-c : tie.Need-mul-c Inv-loop μ-loop
 mul-c c = search needs
 
--- src/lib.rt:58:17
 element-copy-out-c : tie.Need-element-copy-out-c Inv-loop μ-loop
 element-copy-out-c c = search needs
 
--- src/lib.rt:59:13
 slowest-requires : tie.Need-slowest-requires Inv-loop μ-loop
 slowest-requires c κs = search (curve-good)
 
--- src/lib.rt:60:9
 mul-d : tie.Need-mul-d Inv-loop μ-loop
 mul-d c = search needs
 
--- src/lib.rt:60:9
 array-write-d : tie.Need-array-write-d Inv-loop μ-loop
 array-write-d c = search needs
 
--- src/lib.rt:61:13
 add-k : tie.Need-add-k Inv-loop μ-loop
 add-k c = search needs
 
--- src/lib.rt:57:5
 loop-less : tie.Need-loop-less Inv-loop μ-loop
 loop-less c = search needs
 
--- src/lib.rt:57:5
 loop-again : tie.Need-loop-again Inv-loop μ-loop
 loop-again c = (search needs, search (slowest-more))
 
--- src/lib.rt:50:1
 returns : tie.Need-returns Inv-loop μ-loop
 returns c = search (slowest-done)
 

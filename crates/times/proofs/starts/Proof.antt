@@ -1,3 +1,5 @@
+-- `times::starts` meets its contract. The invariant: the starts are those by the first k links.
+-- Assumes nothing.
 use Rattle.times.proofs.Loops.{scaled, from-below, to-below, arrival-fits, starts-none, starts-more, starts-done}
 use Rattle.times.specs.Times.{startsOf}
 use Prim.Native.Nat.{_≤_, _-_}
@@ -17,71 +19,54 @@ Inv-loop n link e s₀ k₀ s k = (k ≤ n) × (s ≡ startsOf link k e)
 abbrev μ-loop : tie.MeasureT-loop
 μ-loop n link e s₀ k₀ s k = n - k
 
--- src/lib.rt:39:17
 zeros-requires : tie.Need-zeros-requires Inv-loop μ-loop
 zeros-requires c κs = search needs
 
--- src/lib.rt:41:5
 loop-holds : tie.Need-loop-holds Inv-loop μ-loop
 loop-holds c = (search needs, search (starts-none))
 
--- src/lib.rt:42:17
 mul-l : tie.Need-mul-l Inv-loop μ-loop
 mul-l c = search needs
 
--- src/lib.rt:42:17
 array-copy-out-l : tie.Need-array-copy-out-l Inv-loop μ-loop
 array-copy-out-l c = search needs
 
--- src/lib.rt:45:23
 mul-larger : tie.Need-mul-larger Inv-loop μ-loop
 mul-larger c = search (scaled, from-below, to-below, needs)
 
--- src/lib.rt:45:23
 array-read-larger : tie.Need-array-read-larger Inv-loop μ-loop
 array-read-larger c = search (scaled, from-below, to-below, needs)
 
--- src/lib.rt:45:29
 mul-larger-2 : tie.Need-mul-larger-2 Inv-loop μ-loop
 mul-larger-2 c = search (scaled, from-below, to-below, needs)
 
--- src/lib.rt:45:29
 array-read-larger-2 : tie.Need-array-read-larger-2 Inv-loop μ-loop
 array-read-larger-2 c = search (scaled, from-below, to-below, needs)
 
--- src/lib.rt:45:36
 wire-requires : tie.Need-wire-requires Inv-loop μ-loop
 wire-requires c κs = search needs
 
--- src/lib.rt:45:29
 add-larger : tie.Need-add-larger Inv-loop μ-loop
 add-larger c = search (arrival-fits)
 
--- src/lib.rt:45:16
 larger-requires : tie.Need-larger-requires Inv-loop μ-loop
 larger-requires c κs = search needs
 
--- src/lib.rt:45:9
 mul-s : tie.Need-mul-s Inv-loop μ-loop
 mul-s c = search (scaled, from-below, to-below, needs)
 
--- src/lib.rt:45:9
 array-write-s : tie.Need-array-write-s Inv-loop μ-loop
 array-write-s c = search (scaled, from-below, to-below, needs)
 
--- src/lib.rt:46:13
 add-k : tie.Need-add-k Inv-loop μ-loop
 add-k c = search needs
 
--- src/lib.rt:41:5
 loop-less : tie.Need-loop-less Inv-loop μ-loop
 loop-less c = search needs
 
--- src/lib.rt:41:5
 loop-again : tie.Need-loop-again Inv-loop μ-loop
 loop-again c = (search needs, search (starts-more))
 
--- src/lib.rt:35:1
 returns : tie.Need-returns Inv-loop μ-loop
 returns c = search (starts-done)
 

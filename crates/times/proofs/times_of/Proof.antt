@@ -1,3 +1,6 @@
+-- `times::times_of` meets its contract. The invariant: the ends are those after k rounds. It returns by a round that changed nothing,
+-- or after as many rounds as there are ranks.
+-- Assumes nothing.
 use Rattle.times.proofs.Rounds.{roundOf, round-none, round-more, joined, summed, stopped, settled}
 use Prim.Native.Nat.{_≤_, _-_}
 use mathlib.Core.Path.{_≡_}
@@ -17,47 +20,36 @@ Inv-loop delay link links parts e₀ k₀ e k = (k ≤ 65) × (e ≡ roundOf lin
 abbrev μ-loop : tie.MeasureT-loop
 μ-loop delay link links parts e₀ k₀ e k = 65 - k
 
--- src/lib.rt:87:9
 zeros-requires : tie.Need-zeros-requires Inv-loop μ-loop
 zeros-requires c κs = search needs
 
--- src/lib.rt:89:5
 loop-holds : tie.Need-loop-holds Inv-loop μ-loop
 loop-holds c = (search needs, search (round-none))
 
--- src/lib.rt:90:13
 starts-requires : tie.Need-starts-requires Inv-loop μ-loop
 starts-requires c κs = search (joined)
 
--- src/lib.rt:91:13
 ends-requires : tie.Need-ends-requires Inv-loop μ-loop
 ends-requires c κs = search (summed)
 
--- src/lib.rt:92:12
 same-requires : tie.Need-same-requires Inv-loop μ-loop
 same-requires c κs = search needs
 
--- src/lib.rt:93:13
 returns : tie.Need-returns Inv-loop μ-loop
 returns c = search (stopped)
 
--- src/lib.rt:96:13
 add-k : tie.Need-add-k Inv-loop μ-loop
 add-k c = search needs
 
--- src/lib.rt:89:5
 loop-less : tie.Need-loop-less Inv-loop μ-loop
 loop-less c = search needs
 
--- src/lib.rt:89:5
 loop-again : tie.Need-loop-again Inv-loop μ-loop
 loop-again c = (search needs, search (round-more))
 
--- src/lib.rt:98:9
 starts-requires-2 : tie.Need-starts-requires-2 Inv-loop μ-loop
 starts-requires-2 c κs = search (joined)
 
--- src/lib.rt:80:1
 returns-2 : tie.Need-returns-2 Inv-loop μ-loop
 returns-2 c = search (settled)
 

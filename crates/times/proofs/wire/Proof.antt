@@ -1,3 +1,5 @@
+-- `times::wire` meets its contract.
+-- Assumes nothing.
 use Rattle.times.specs.Times.{wireOf}
 use mathlib.Core.Path.{refl}
 use borrow.Author.Needs.{needs}
@@ -6,7 +8,6 @@ use Rattle.times.proofs.wire.Tie as tie
 use Rattle.times.proofs.wire.Reads as reads
 use Rattle.times.proofs.wire.Lts as lts
 
--- src/lib.rt:16:1
 returns : tie.Need-returns
 unfolding wireOf
 returns c = refl

@@ -1,3 +1,5 @@
+-- `times::zeros` meets its contract.
+-- Assumes nothing.
 use Rattle.times.specs.Times.{table}
 use mathlib.Core.Path.{refl}
 use borrow.Author.Needs.{needs}
@@ -6,7 +8,6 @@ use Rattle.times.proofs.zeros.Tie as tie
 use Rattle.times.proofs.zeros.Reads as reads
 use Rattle.times.proofs.zeros.Lts as lts
 
--- src/lib.rt:28:1
 returns : tie.Need-returns
 unfolding table
 returns c = refl

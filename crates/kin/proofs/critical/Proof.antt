@@ -1,0 +1,47 @@
+-- `critical` meets its contract.
+-- Assumes nothing.
+use Rattle.kin.proofs.Ways.{from-past, to-past, too-early, compared}
+use borrow.Author.Needs.{needs}
+use Rattle.kin.proofs.critical.Statement.{statement}
+use Rattle.kin.proofs.critical.Tie as tie
+
+returns : tie.Need-returns
+returns c = search (from-past)
+
+returns-2 : tie.Need-returns-2
+returns-2 c = search (to-past)
+
+mul-e : tie.Need-mul-e
+mul-e c = search needs
+
+array-read-e : tie.Need-array-read-e
+array-read-e c = search needs
+
+mul-s : tie.Need-mul-s
+mul-s c = search needs
+
+array-read-s : tie.Need-array-read-s
+array-read-s c = search needs
+
+returns-3 : tie.Need-returns-3
+returns-3 c = search (too-early)
+
+wire-requires : tie.Need-wire-requires
+wire-requires c κs = search needs
+
+returns-4 : tie.Need-returns-4
+returns-4 c = search (compared)
+
+pub critical-spec : {M : Type 1} → statement M
+critical-spec =
+    tie.close
+    (tie.spec
+    returns
+    returns-2
+    mul-e
+    array-read-e
+    mul-s
+    array-read-s
+    returns-3
+    wire-requires
+    returns-4)

@@ -1,0 +1,67 @@
+-- `critical_rows` meets its contract. The loop has made the rows of the first k links.
+-- Assumes nothing.
+use mathlib.Core.Path.{_≡_}
+use Prim.Native.Nat.{_-_, _≤_}
+use Rattle.kin.specs.Steps.{rowsUpTo}
+use Rattle.kin.proofs.Ways.{rows-none, rows-more}
+use Rattle.kin.proofs.RowLaws.{rows-done}
+use borrow.Author.Needs.{needs}
+use Rattle.kin.proofs.critical_rows.Statement.{statement}
+use Rattle.kin.proofs.critical_rows.Tie as tie
+
+abbrev Inv-loop : tie.InvT-loop
+Inv-loop start end b n t₀ k₀ t k = (k ≤ n) × (t ≡ rowsUpTo b start end k)
+
+abbrev μ-loop : tie.MeasureT-loop
+μ-loop start end b n t₀ k₀ t k = n - k
+
+capped-requires : tie.Need-capped-requires Inv-loop μ-loop
+capped-requires c κs = search needs
+
+no-rows-requires : tie.Need-no-rows-requires Inv-loop μ-loop
+no-rows-requires c κs = search needs
+
+loop-holds : tie.Need-loop-holds Inv-loop μ-loop
+loop-holds c = (search needs, search (rows-none))
+
+mul-l : tie.Need-mul-l Inv-loop μ-loop
+mul-l c = search needs
+
+element-copy-out-l : tie.Need-element-copy-out-l Inv-loop μ-loop
+element-copy-out-l c = search needs
+
+critical-requires : tie.Need-critical-requires Inv-loop μ-loop
+critical-requires c κs = search needs
+
+with-link-requires : tie.Need-with-link-requires Inv-loop μ-loop
+with-link-requires c κs = search needs
+
+add-k : tie.Need-add-k Inv-loop μ-loop
+add-k c = search needs
+
+loop-less : tie.Need-loop-less Inv-loop μ-loop
+loop-less c = search needs
+
+loop-again : tie.Need-loop-again Inv-loop μ-loop
+loop-again c = (search needs, search (rows-more))
+
+returns : tie.Need-returns Inv-loop μ-loop
+returns c = search (rows-done)
+
+pub critical-rows-spec : {M : Type 1} → statement M
+critical-rows-spec =
+    tie.close
+    (tie.spec
+    Inv-loop
+    μ-loop
+    capped-requires
+    no-rows-requires
+    loop-holds
+    mul-l
+    element-copy-out-l
+    critical-requires
+    with-link-requires
+    add-k
+    loop-less
+    loop-again
+    returns)

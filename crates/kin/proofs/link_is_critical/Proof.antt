@@ -1,0 +1,35 @@
+-- `link_is_critical` meets its contract.
+-- Assumes nothing.
+use Rattle.kin.proofs.Ways.{no-such-link, such-link}
+use borrow.Author.Needs.{needs}
+use Rattle.kin.proofs.link_is_critical.Statement.{statement}
+use Rattle.kin.proofs.link_is_critical.Tie as tie
+
+capped-requires : tie.Need-capped-requires
+capped-requires c κs = search needs
+
+returns : tie.Need-returns
+returns c = search (no-such-link)
+
+mul-critical : tie.Need-mul-critical
+mul-critical c = search needs
+
+element-copy-out-critical : tie.Need-element-copy-out-critical
+element-copy-out-critical c = search needs
+
+critical-requires : tie.Need-critical-requires
+critical-requires c κs = search needs
+
+returns-2 : tie.Need-returns-2
+returns-2 c = search (such-link)
+
+pub link-is-critical-spec : {M : Type 1} → statement M
+link-is-critical-spec =
+    tie.close
+    (tie.spec
+    capped-requires
+    returns
+    mul-critical
+    element-copy-out-critical
+    critical-requires
+    returns-2)

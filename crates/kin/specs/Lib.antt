@@ -1,0 +1,3 @@
+pub mod Critical
+pub mod Kin
+pub mod Steps

@@ -1,0 +1,181 @@
+// Critical links, and the parents and children of a part: two steps that call each other until neither set grows.
+use board::Board;
+use board::Link;
+ghost use mathlib.Core.Path.{_≡_};
+ghost use Prim.Native.Nat.{_<_, min};
+ghost use Rattle.kin.specs.Critical.{criticalb, criticalAt, Critical, CriticalRows};
+ghost use Rattle.kin.specs.Kin.{KinOf};
+ghost use Rattle.kin.specs.Steps.{noMarks, noRowsOf, markedOf, withLinkOf, joinedOf, gatheredOf, Led, Grown};
+
+// The critical links as marks: bit q of `down[p]` and bit p of `up[q]` where one leads from p to q.
+pub struct Rows {
+    pub down: [u64; 64],
+    pub up: [u64; 64],
+}
+
+pub struct Kin {
+    pub parents: u64,
+    pub children: u64,
+}
+
+fn capped(n: usize, most: usize) -> usize
+    ensures { λ r. ⌜ r ≡ min n most ⌝ }
+{
+    if n < most {
+        return n;
+    }
+    most
+}
+
+// Whether a link is critical. The difference is compared with the link's ticks, so no sum can overflow.
+pub fn critical(start: [u32; 64], end: [u32; 64], l: Link) -> bool
+    ensures { λ r. ⌜ r ≡ criticalb start end l ⌝ }
+{
+    let p = l.from;
+    let q = l.to;
+    if 64 <= p {
+        return false;
+    }
+    if 64 <= q {
+        return false;
+    }
+    let e = end[p];
+    let s = start[q];
+    if s < e {
+        return false;
+    }
+    s - e == times::wire(l)
+}
+
+// Whether link l of the board is critical; false where the board has no link l.
+pub fn link_is_critical(b: Board, start: [u32; 64], end: [u32; 64], l: usize) -> bool
+    ensures { λ r. ⌜ r ≡ criticalAt b start end l ⌝ }
+{
+    let n = capped(b.links, 256);
+    if n <= l {
+        return false;
+    }
+    critical(start, end, b.link[l])
+}
+
+fn no_marks() -> [u64; 64]
+    ensures { λ r. ⌜ r ≡ noMarks ⌝ }
+{
+    [0u64; 64]
+}
+
+fn no_rows() -> Rows
+    ensures { λ r. ⌜ r ≡ noRowsOf ⌝ }
+{
+    let none = no_marks();
+    Rows {
+        down: none,
+        up: none,
+    }
+}
+
+// Row p gets mark q, if it is to be added.
+fn marked(rows: [u64; 64], add: bool, p: usize, q: usize) -> [u64; 64]
+    ensures { λ r. ⌜ r ≡ markedOf rows add p q ⌝ }
+{
+    if !add {
+        return rows;
+    }
+    if 64 <= p {
+        return rows;
+    }
+    let mut next = rows;
+    next[p] = marks::insert(rows[p], q);
+    next
+}
+
+// The rows with a link more, if it is to be added.
+fn with_link(t: Rows, add: bool, l: Link) -> Rows
+    ensures { λ r. ⌜ r ≡ withLinkOf t add l ⌝ }
+{
+    let down = t.down;
+    let up = t.up;
+    let p = l.from;
+    let q = l.to;
+    Rows {
+        down: marked(down, add, p, q),
+        up: marked(up, add, q, p),
+    }
+}
+
+// The critical links of the board.
+pub fn critical_rows(b: Board, start: [u32; 64], end: [u32; 64]) -> Rows
+    ensures { λ r. ⌜ CriticalRows b start end r ⌝ }
+{
+    let n = capped(b.links, 256);
+    let mut t = no_rows();
+    let mut k: usize = 0;
+    while k < n {
+        let l = b.link[k];
+        let next = with_link(t, critical(start, end, l), l);
+        t = next;
+        k = k + 1;
+    }
+    t
+}
+
+// The set and, where k is among those seen, what its row marks.
+fn joined(set: u64, seen: u64, k: usize, row: u64) -> u64
+    ensures { λ r. ⌜ r ≡ joinedOf set seen k row ⌝ }
+{
+    if marks::has(seen, k) {
+        return marks::union(set, row);
+    }
+    set
+}
+
+// The set and all that the rows of those seen mark.
+fn gathered(rows: [u64; 64], seen: u64, set: u64) -> u64
+    ensures { λ r. ⌜ r ≡ gatheredOf rows seen set ⌝ }
+{
+    let mut s = set;
+    let mut k: usize = 0;
+    while k < 64 {
+        s = joined(s, seen, k, rows[k]);
+        k = k + 1;
+    }
+    s
+}
+
+// Children are all that critical links lead to from the parents. The parents have all that lead to the children so far.
+fn child_step(t: Rows, parents: u64, children: u64) -> Kin
+    ensures { λ r. ⌜ (Led (t .up) children parents → Grown t parents children r) ⌝ }
+{
+    let down = t.down;
+    let next = gathered(down, parents, children);
+    if next == children {
+        return Kin {
+            parents: parents,
+            children: children,
+        };
+    }
+    parent_step(t, parents, next)
+}
+
+// Parents are all that have a critical link to the children. The children are all that the parents so far lead to.
+fn parent_step(t: Rows, parents: u64, children: u64) -> Kin
+    ensures { λ r. ⌜ (Led (t .down) parents children → Grown t parents children r) ⌝ }
+{
+    let up = t.up;
+    let next = gathered(up, children, parents);
+    if next == parents {
+        return Kin {
+            parents: parents,
+            children: children,
+        };
+    }
+    child_step(t, next, children)
+}
+
+// The parents and children of part p; a p of 64 or more has neither.
+pub fn kin_of(b: Board, start: [u32; 64], end: [u32; 64], p: usize) -> Kin
+    ensures { λ r. ⌜ KinOf (Critical b start end) p r ⌝ }
+{
+    let t = critical_rows(b, start, end);
+    child_step(t, marks::one(p), 0)
+}
