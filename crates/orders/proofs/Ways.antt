@@ -109,10 +109,9 @@ module _ (s : List ℕ) (kind at : ℕ) (r : OrderRead) where
   unfolding kindFrom pick
   kind-4 e ends = rw e ends
 
-  pub kind-unknown : 5 ≤ kind → r ≡ orderRead (stop UnknownKind 0) → r ≡ orderRead (kindFrom s kind at)
+  pub kind-unknown : (kind ≡ 1 → ⊥) → (kind ≡ 2 → ⊥) → (kind ≡ 3 → ⊥) → (kind ≡ 4 → ⊥) → r ≡ orderRead (stop UnknownKind 0) → r ≡ orderRead (kindFrom s kind at)
   unfolding kindFrom pick
-  kind-unknown h ends =
-      rw (ne-eqb kind 1 (λ e. omega arith), ne-eqb kind 2 (λ e. omega arith), ne-eqb kind 3 (λ e. omega arith), ne-eqb kind 4 (λ e. omega arith)) ends
+  kind-unknown not-1 not-2 not-3 not-4 ends = rw (ne-eqb kind 1 not-1, ne-eqb kind 2 not-2, ne-eqb kind 3 not-3, ne-eqb kind 4 not-4) ends
 
 -- ---- `read_order`
 module _ (s : List ℕ) (f : Read) (is : f ≡ numberAt s 0) where

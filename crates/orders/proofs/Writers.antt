@@ -1,4 +1,4 @@
--- The ways of the writers: each change's bytes, its numbers in their types, and room for each step.
+-- The ways of the writers: each change's bytes, their count, its numbers in their ranges, and room for each step.
 -- Assumes nothing.
 use mathlib.Core.Path.{_≡_, refl, sym, ap, _∙_}
 use mathlib.Core.List.{List, _++_}
@@ -18,7 +18,7 @@ use Rattle.fields.proofs.CurveFileLaws.{curve-size-le}
 use Rattle.orders.specs.declared.Change.{Change}
 use Rattle.orders.specs.declared.Change.the-variants.{Deadline, AddLink, RemoveLink, NewCurve}
 use Rattle.orders.specs.declared.Order.{Order}
-use Rattle.orders.specs.Order.{Orderly, orderBytes}
+use Rattle.orders.specs.Order.{Ends, Orderly, orderBytes}
 
 -- ---- what stands for each change
 module _ (o : Order) where
@@ -45,21 +45,24 @@ module _ (o : Order) where
   pub order-wrote : (buf : List ℕ) (at : ℕ) (w : List ℕ) (r : ℕ) (buf′ : List ℕ) → orderBytes o ≡ w → Wrote buf at w r buf′ → Wrote buf at (orderBytes o) r buf′
   order-wrote buf at w r buf′ is wrote = rw is wrote
 
-  pub two-counted : (v w : List ℕ) (a b : ℕ) → orderBytes o ≡ v ++ w → a ≡ length v → b ≡ length w → a + b ≡ length (orderBytes o)
-  two-counted v w a b is first second = rw is (omega (arith, length-append v w))
+  pub order-counted : (w : List ℕ) (r : ℕ) → orderBytes o ≡ w → r ≡ length w → r ≡ length (orderBytes o)
+  order-counted w r is counted = rw is counted
 
-  pub three-counted : (u v w : List ℕ) (a b c : ℕ) → orderBytes o ≡ u ++ (v ++ w) → a ≡ length u → b ≡ length v → c ≡ length w → a + b + c ≡ length (orderBytes o)
-  three-counted u v w a b c is first second third = rw is (omega (arith, length-append u (v ++ w), length-append v w))
+pub two-counted : (v w : List ℕ) (a b : ℕ) → a ≡ length v → b ≡ length w → a + b ≡ length (v ++ w)
+two-counted v w a b first second = omega (arith, length-append v w)
 
--- ---- the numbers of an order in its ranges fit their types
+pub three-counted : (u v w : List ℕ) (a b c : ℕ) → a ≡ length u → b ≡ length v → c ≡ length w → a + b + c ≡ length (u ++ (v ++ w))
+three-counted u v w a b c first second third = omega (arith, length-append u (v ++ w), length-append v w)
+
+-- ---- the numbers of an order in its ranges
 module _ (o : Order) (orderly : Orderly o) where
-  pub added-fits : (from to : ℕ) → o .change ≡ AddLink from to → (Fits w32 from) × (Fits w32 to)
+  pub added-ends : (from to : ℕ) → o .change ≡ AddLink from to → Ends from to
   unfolding Orderly
-  added-fits from to e = let ends = rw e at orderly in (omega (arith, ends .0), omega (arith, ends .1))
+  added-ends from to e = let known = rw e at orderly in known .0
 
-  pub removed-fits : (from to : ℕ) → o .change ≡ RemoveLink from to → (Fits w32 from) × (Fits w32 to)
+  pub removed-ends : (from to : ℕ) → o .change ≡ RemoveLink from to → Ends from to
   unfolding Orderly
-  removed-fits from to e = let ends = rw e at orderly in (omega (arith, ends .0), omega (arith, ends .1))
+  removed-ends from to e = let known = rw e at orderly in known .0
 
   pub part-fits : (part : ℕ) → o .change ≡ NewCurve part → Fits w32 part
   unfolding Orderly
@@ -72,20 +75,7 @@ module _ (o : Order) (orderly : Orderly o) where
   pub new-curve-fits : (part a b c : ℕ) → o .change ≡ NewCurve part → a ≤ 3 → b ≤ 3 → c ≡ length (curveBytes (o .curve)) → Fits w64 (a + b + c)
   new-curve-fits part a b c e first second third = omega (arith, curve-size-le (o .curve) (new-curve-good part e))
 
--- the first and the second of two
-pub added-from-fits : (o : Order) (from to : ℕ) → Orderly o → o .change ≡ AddLink from to → Fits w32 from
-added-from-fits o from to orderly e = added-fits o orderly from to e .0
-
-pub added-to-fits : (o : Order) (from to : ℕ) → Orderly o → o .change ≡ AddLink from to → Fits w32 to
-added-to-fits o from to orderly e = added-fits o orderly from to e .1
-
-pub removed-from-fits : (o : Order) (from to : ℕ) → Orderly o → o .change ≡ RemoveLink from to → Fits w32 from
-removed-from-fits o from to orderly e = removed-fits o orderly from to e .0
-
-pub removed-to-fits : (o : Order) (from to : ℕ) → Orderly o → o .change ≡ RemoveLink from to → Fits w32 to
-removed-to-fits o from to orderly e = removed-fits o orderly from to e .1
-
--- ---- `put_new_curve`
+-- ---- `write_new_curve`
 module _ (buf : List ℕ) (at part : ℕ) (c : Curve) (room : at + length (encode 4 ++ (encode part ++ curveBytes c)) ≤ length buf) where
   pub kind-room : at + length (encode 4) ≤ length buf
   kind-room = first-room buf at (encode 4) (encode part ++ curveBytes c) room

@@ -1,5 +1,6 @@
 -- 01, Files: "An order opens with its kind. Kinds 1 to 4 are orders, 0 is reserved, 5 upward are unknown. 1: deadline. 2: from, to, a link to
--- add. 3: from, to, a link to remove. 4: part, then a whole new curve as in a design file."
+-- add. 3: from, to, a link to remove. 4: part, then a whole new curve as in a design file." An order is read alone: the board is not asked, and
+-- what follows it is the next order's. The subtle point: any number may stand for the kind, so 1 and 2 come before 12.
 -- Assumes nothing.
 use mathlib.Core.Path.{_≡_}
 use mathlib.Core.Bool.{Bool, true, false}
@@ -69,15 +70,20 @@ orderRead (got o next) = record { answer = Done; took = next; order = o }
 orderRead (stop why place) = record { answer = Refused why place; took = 0; order = plainly (Deadline (record { 0 = 0 })) }
 
 -- ---- orders in their ranges
--- "Deadline: 1 to 4,095 ticks"; "part numbers 0 to 63"; a curve as 01 asks it to be, and only a change of a curve brings one
-abbrev pub Ranged : Change → Curve → Type 0
-Ranged (Deadline d) c = (1 ≤ d .0) × (d .0 ≤ 4095) × (c ≡ blankCurve)
-Ranged (AddLink from to) c = (from ≤ 63) × (to ≤ 63) × (c ≡ blankCurve)
-Ranged (RemoveLink from to) c = (from ≤ 63) × (to ≤ 63) × (c ≡ blankCurve)
-Ranged (NewCurve part) c = (part ≤ 63) × Good c
+-- "part numbers 0 to 63"
+pub record Ends (from to : ℕ) : Type 0 where
+  pub from-in : from ≤ 63
+  pub to-in : to ≤ 63
+
+-- "Deadline: 1 to 4,095 ticks"; a new curve is as 01 asks it to be, and no other change brings one
+abbrev pub InRange : Change → Curve → Type 0
+InRange (Deadline d) c = (1 ≤ d .0) × (d .0 ≤ 4095) × (c ≡ blankCurve)
+InRange (AddLink from to) c = Ends from to × (c ≡ blankCurve)
+InRange (RemoveLink from to) c = Ends from to × (c ≡ blankCurve)
+InRange (NewCurve part) c = (part ≤ 63) × Good c
 
 unfoldable pub Orderly : Order → Type 0
-Orderly o = Ranged (o .change) (o .curve)
+Orderly o = InRange (o .change) (o .curve)
 
 -- ---- the bytes of an order
 abbrev pub changeBytes : Change → Curve → List ℕ

@@ -14,7 +14,7 @@ ghost use Rattle.curve.specs.Curve.{Good};
 ghost use Rattle.fields.specs.Parse.{stop};
 ghost use Rattle.fields.specs.CurveFile.{curveBytes};
 ghost use Rattle.fields.specs.Writing.{Wrote};
-ghost use Rattle.orders.specs.Order.{plainly, linkChange, deadlineFrom, linkFrom, newCurveFrom, kindFrom, orderOf, orderRead, Orderly, orderBytes};
+ghost use Rattle.orders.specs.Order.{plainly, linkChange, deadlineFrom, linkFrom, newCurveFrom, kindFrom, orderOf, orderRead, Ends, Orderly, orderBytes};
 
 // What an order would change: its place, and for all but a curve what is to stand there.
 pub enum Change {
@@ -167,6 +167,13 @@ pub fn read_order(s: &[u8]) -> OrderRead
     }
 }
 
+fn link_size(kind: u32, from: usize, to: usize) -> usize
+    requires { ⌜ Ends from to ⌝ }
+    ensures { λ r. ⌜ r ≡ length (encode kind ++ (encode from ++ encode to)) ⌝ }
+{
+    fields::size(kind) + fields::size(from as u32) + fields::size(to as u32)
+}
+
 // The bytes that an order takes.
 pub fn order_size(o: Order) -> usize
     requires { ⌜ Orderly o ⌝ }
@@ -175,19 +182,15 @@ pub fn order_size(o: Order) -> usize
     let change = o.change;
     match change {
         Change::Deadline { deadline } => fields::size(1) + fields::size(deadline.0),
-        Change::AddLink { from, to } => fields::size(2)
-            + fields::size(from as u32)
-            + fields::size(to as u32),
-        Change::RemoveLink { from, to } => fields::size(3)
-            + fields::size(from as u32)
-            + fields::size(to as u32),
-        Change::NewCurve { part } => fields::size(4)
-            + fields::size(part as u32)
-            + fields::curve_size(o.curve),
+        Change::AddLink { from, to } => link_size(2, from, to),
+        Change::RemoveLink { from, to } => link_size(3, from, to),
+        Change::NewCurve { part } => {
+            fields::size(4) + fields::size(part as u32) + fields::curve_size(o.curve)
+        }
     }
 }
 
-fn put_two(buf: &mut [u8], at: usize, first: u32, second: u32) -> usize
+fn write_two(buf: &mut [u8], at: usize, first: u32, second: u32) -> usize
     requires { ⌜ at + length (encode first ++ encode second) ≤ length (now buf) ⌝ }
     ensures { λ r. ⌜ Wrote (now (buf .entry)) at (encode first ++ encode second) r (now (buf .exit)) ⌝ }
 {
@@ -195,15 +198,15 @@ fn put_two(buf: &mut [u8], at: usize, first: u32, second: u32) -> usize
     fields::put(buf, next, second)
 }
 
-fn put_link(buf: &mut [u8], at: usize, kind: u32, from: u32, to: u32) -> usize
-    requires { ⌜ at + length (encode kind ++ (encode from ++ encode to)) ≤ length (now buf) ⌝ }
+fn write_link(buf: &mut [u8], at: usize, kind: u32, from: usize, to: usize) -> usize
+    requires { ⌜ (Ends from to) × (at + length (encode kind ++ (encode from ++ encode to)) ≤ length (now buf)) ⌝ }
     ensures { λ r. ⌜ Wrote (now (buf .entry)) at (encode kind ++ (encode from ++ encode to)) r (now (buf .exit)) ⌝ }
 {
     let next = fields::put(buf, at, kind);
-    put_two(buf, next, from, to)
+    write_two(buf, next, from as u32, to as u32)
 }
 
-fn put_new_curve(buf: &mut [u8], at: usize, part: u32, c: Curve) -> usize
+fn write_new_curve(buf: &mut [u8], at: usize, part: u32, c: Curve) -> usize
     requires { ⌜ (Good c) × (at + length (encode 4 ++ (encode part ++ curveBytes c)) ≤ length (now buf)) ⌝ }
     ensures { λ r. ⌜ Wrote (now (buf .entry)) at (encode 4 ++ (encode part ++ curveBytes c)) r (now (buf .exit)) ⌝ }
 {
@@ -219,9 +222,9 @@ pub fn write_order(buf: &mut [u8], at: usize, o: Order) -> usize
 {
     let change = o.change;
     match change {
-        Change::Deadline { deadline } => put_two(buf, at, 1, deadline.0),
-        Change::AddLink { from, to } => put_link(buf, at, 2, from as u32, to as u32),
-        Change::RemoveLink { from, to } => put_link(buf, at, 3, from as u32, to as u32),
-        Change::NewCurve { part } => put_new_curve(buf, at, part as u32, o.curve),
+        Change::Deadline { deadline } => write_two(buf, at, 1, deadline.0),
+        Change::AddLink { from, to } => write_link(buf, at, 2, from, to),
+        Change::RemoveLink { from, to } => write_link(buf, at, 3, from, to),
+        Change::NewCurve { part } => write_new_curve(buf, at, part as u32, o.curve),
     }
 }

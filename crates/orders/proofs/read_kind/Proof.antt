@@ -55,7 +55,7 @@ returns-5 c = search (kind-4)
 
 -- src/lib.rt:147:1
 returns-6 : tie.Need-returns-6
-returns-6 c = {! c .match !}
+returns-6 c = search (kind-unknown)
 
 pub read-kind-spec : {M : Type 1} → statement M
 read-kind-spec =
