@@ -18,7 +18,7 @@ use Rattle.board.specs.declared.Link.{Link}
 use Rattle.board.specs.declared.Board.{Board}
 use Rattle.board.specs.Board.{noCurve, noLink, curveAt, linkAt, usable, view, Linked, WellFormed}
 use Rattle.board.specs.Path.{Path, one, more, LoopFree}
-use Rattle.times.proofs.Lawful.{lawful}
+use Rattle.board.proofs.Lawful.{lawful}
 use Rattle.budget.specs.declared.Budget as value
 use Rattle.budget.specs.Made.{timesIn}
 use Rattle.budget.proofs.BudgetLaws.{allowed-budget}
