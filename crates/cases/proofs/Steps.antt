@@ -1,0 +1,124 @@
+-- Each kind of step, from a desk that holds a board whose facts are known.
+-- Assumes nothing.
+use mathlib.Core.Path.{_≡_, refl, sym, ap, _∙_, subst}
+use mathlib.Core.Bool.{true}
+use mathlib.Core.List.{List, []}
+use Prim.Native.Nat.{ℕ, _+_, _<_}
+use lib.Count.{ones}
+use lib.Dec.{ltb, leb}
+use lib.ListN.{length}
+use borrow.Author.Tests.{leb-true, ltb-true}
+use Rattle.base.specs.Pick.{pick}
+use Rattle.theory.specs.Sum.{cells}
+use Rattle.refusal.specs.declared.Why.{Why}
+use Rattle.refusal.specs.declared.Why.the-variants.{TooSlow}
+use Rattle.refusal.specs.Refusal.{numberOf}
+use Rattle.curve.specs.declared.Power.{Power}
+use Rattle.curve.specs.declared.Power.the-variants as power
+use Rattle.curve.specs.Answers.{powerAtOf}
+use Rattle.curve.specs.Tests.{every}
+use Rattle.curve.proofs.GoodLaws.{every-at}
+use Rattle.board.specs.declared.Board.{Board}
+use Rattle.board.specs.Board.{curveAt, usable, view}
+use Rattle.cone.specs.Cone.{Upstream, Downstream}
+use Rattle.cone.specs.Sweeps.{upstreamOf, downstreamOf}
+use Rattle.cone.proofs.Cones.{upstream-is, upstream-once, downstream-is, downstream-once}
+use Rattle.kin.specs.declared.Kin.{Kin}
+use Rattle.kin.specs.Critical.{Critical}
+use Rattle.kin.specs.Kin.{KinOf}
+use Rattle.slow.specs.Walk.{trailOf}
+use Rattle.budget.specs.declared.Budget.{Budget}
+use Rattle.budget.specs.Made.{valueOf}
+use Rattle.budget.proofs.BudgetLaws.{value-allowed}
+use Rattle.design.specs.Design.{fileOf}
+use Rattle.orders.specs.declared.Order.{Order}
+use Rattle.desk.specs.declared.Tally.{Tally}
+use Rattle.desk.specs.declared.Desk.{Desk}
+use Rattle.desk.specs.declared.Loaded.{Loaded}
+use Rattle.desk.specs.declared.Ordered.{Ordered}
+use Rattle.desk.specs.Load.{noTally, loadRefused}
+use Rattle.desk.specs.Order.{oneRefused, refusedTally, orderRefused}
+use Rattle.cases.specs.Promised.{padded, RefusedBy, Shows, Later, Another, Marks, KinAre, LoadRefused, OrderMade, OrderRefused}
+use Rattle.cases.proofs.Best.{endsOf, timesBy, fits, fits-budget}
+use Rattle.cases.proofs.Judged.{Known, known-formed, At, at-budget, Made}
+
+-- the budget that was worked out
+abbrev pub worked : Board → List ℕ → Budget
+worked b delays = valueOf b (timesBy (view b) delays)
+
+-- ---- another budget, by its own test and by comparison place by place
+module _ (b : Board) (delays : List ℕ) (k : Known b delays) (others : List ℕ) (fit : fits (view b) (usable b) others (endsOf (view b) others) ≡ true) where
+  pub another-is :
+      (ends : List ℕ) (total : ℕ) → Shows (worked b others) others ends total → worked b others .total ≡ worked b delays .total →
+      every 64 (λ p. leb (cells (worked b delays .end) p) (cells (worked b others .end) p)) ≡ true →
+      (part : ℕ) → ltb (cells (worked b delays .end) part) (cells (worked b others .end) part) ≡ true →
+      Another b (worked b delays) others ends total
+  another-is ends total shows same none-earlier part later = record {
+    other = worked b others;
+    allowed = value-allowed b (known-formed b delays k) (timesBy (view b) others) (fits-budget (view b) (usable b) others fit);
+    shows = shows;
+    same = same;
+    arrives = record {
+      none-earlier = λ p h. leb-true _ _ (every-at (λ p. leb (cells (worked b delays .end) p) (cells (worked b others .end) p)) 64 none-earlier p h);
+      part = part;
+      later = ltb-true _ _ later;
+    };
+  }
+
+-- ---- questions
+module _ {b : Board} {n : Tally} {d : Desk} {t : Tally} (at : At b n d t) where
+  module _ {delays : List ℕ} (k : Known b delays) where
+    pub holds-step : {ds ends : List ℕ} {total : ℕ} → Shows (worked b delays) ds ends total → Shows (d .budget) ds ends total
+    holds-step {ds} {ends} {total} is = subst (λ (r : Budget). Shows r ds ends total) (sym (at-budget b delays k at)) is
+
+    pub also-step :
+        {ds ends : List ℕ} {total : ℕ} → Another b (worked b delays) ds ends total → Another (d .board) (d .budget) ds ends total
+    also-step {ds} {ends} {total} is =
+        subst (λ (x : Board). Another x (d .budget) ds ends total) (sym (at .board))
+        (subst (λ (r : Budget). Another b r ds ends total) (sym (at-budget b delays k at)) is)
+
+    pub kin-step :
+        {part parents children : ℕ} →
+        ((k : Kin) → KinOf (Critical b (worked b delays .start) (worked b delays .end)) part k → KinAre k parents children) →
+        (k : Kin) → KinOf (Critical (d .board) (d .budget .start) (d .budget .end)) part k → KinAre k parents children
+    kin-step {part} {parents} {children} is =
+        subst (λ (x : Board). (k : Kin) → KinOf (Critical x (d .budget .start) (d .budget .end)) part k → KinAre k parents children) (sym (at .board))
+        (subst (λ (r : Budget). (k : Kin) → KinOf (Critical b (r .start) (r .end)) part k → KinAre k parents children) (sym (at-budget b delays k at)) is)
+
+  pub power-step : (part delay : ℕ) {a : Power} → powerAtOf (curveAt b part) delay ≡ a → powerAtOf (curveAt (d .board) part) delay ≡ a
+  power-step part delay is = ap (λ (x : Board). powerAtOf (curveAt x part) delay) (at .board) ∙ is
+
+  pub upstream-step : {part set count : ℕ} → part < b .parts → upstreamOf b part ≡ set → ones set ≡ count → (s : ℕ) → Upstream (d .board) part s → Marks s set count
+  upstream-step {part} {set} {count} h is many s up =
+      let here : part < d .board .parts = rw (at .board) h in
+      let same : s ≡ set =
+      upstream-once (d .board) part s (upstreamOf (d .board) part) up (upstream-is (d .board) (at .holding .kept .formed) part here)
+      ∙ ap (λ (x : Board). upstreamOf x part) (at .board) ∙ is in
+      record { set-is = same; count-is = ap ones same ∙ many }
+
+  pub downstream-step : {part set count : ℕ} → part < b .parts → downstreamOf b part ≡ set → ones set ≡ count → (s : ℕ) → Downstream (d .board) part s → Marks s set count
+  downstream-step {part} {set} {count} h is many s down =
+      let here : part < d .board .parts = rw (at .board) h in
+      let same : s ≡ set =
+      downstream-once (d .board) part s (downstreamOf (d .board) part) down (downstream-is (d .board) (at .holding .kept .formed) part here)
+      ∙ ap (λ (x : Board). downstreamOf x part) (at .board) ∙ is in
+      record { set-is = same; count-is = ap ones same ∙ many }
+
+-- ---- orders
+pub made-order : {r : Ordered} {took : ℕ} {b : Board} {n : Tally} {bytes : List ℕ} → took ≡ length bytes → Made r took b n → OrderMade bytes r
+made-order all m = record { done = m .done; took-all = m .took-is ∙ all; path-is = m .path-is }
+
+module _ (r : Ordered) (ticks took : ℕ) (path : List ℕ) (d : Desk) (t : Tally) (is : r ≡ orderRefused TooSlow ticks took path d t) where
+  pub refused-order : {bytes : List ℕ} → took ≡ length bytes → OrderRefused bytes d r 10 ticks path
+  refused-order all = record {
+    refused = record { why = TooSlow; numbered = refl; is = ap (λ (x : Ordered). x .answer) is };
+    took-all = ap (λ (x : Ordered). x .took) is ∙ all;
+    path-is = ap (λ (x : Ordered). x .path) is;
+    desk-stays = ap (λ (x : Ordered). x .desk) is;
+  }
+
+  pub refused-at : {b : Board} {n : Tally} → At b n d t → At b (oneRefused n) (r .desk) (r .tally)
+  unfolding refusedTally pick
+  refused-at {b} {n} at =
+      subst (λ (x : Ordered). At b (oneRefused n) (x .desk) (x .tally)) (sym is)
+      (record { board = at .board; holding = at .holding; tally = ap oneRefused (at .tally) })
