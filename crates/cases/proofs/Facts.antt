@@ -23,7 +23,8 @@ use Rattle.fields.specs.Writing.{inRow}
 use Rattle.fields.specs.CurveFile.{bare, falls, runFrom, runsFrom, curveFrom, runsBytes, curveBytes}
 use Rattle.design.specs.Design.{versionAt, inPlace, partFrom, partsFrom, above, linkFrom, linksFrom, wholeAt, linkedFrom, bodyFrom, headFrom, designOf, partsBytes, linksBytes, fileOf}
 use Rattle.orders.specs.declared.Change.the-variants.{Deadline, AddLink, RemoveLink}
-use Rattle.orders.specs.Order.{plainly}
+use Rattle.orders.specs.Order.{plainly, deadlineFrom, kindFrom, orderOf}
+use Rattle.orders.specs.Order as orders
 use Rattle.desk.specs.Order.{changedOf, placeTried}
 use Rattle.cases.specs.Boards.{curve, link, board, curvesK, K, D, flat, long}
 use Rattle.cases.proofs.Best.{endsBy, endsOf, costOf, settled, inTime, onCurves, noLater, fits, yields, allDelays, best}
@@ -65,13 +66,26 @@ facts = record {
 
 -- ---- the orders of cases (8), (9) and (10)
 pub record Changes : Type 0 where
+  pub add-reads : orderOf (2 ∷ 3 ∷ 1 ∷ []) ≡ got (plainly (AddLink 3 1)) 3
   pub add : changedOf K (plainly (AddLink 3 1)) ≡ linkedK 10
   pub add-fits : placeTried K (AddLink 3 1) ≡ Done
+  pub shorten-reads : orderOf (1 ∷ 9 ∷ []) ≡ got (plainly (Deadline (record { 0 = 9 }))) 2
   pub shorten-linked : changedOf (linkedK 10) (plainly (Deadline (record { 0 = 9 }))) ≡ linkedK 9
+  pub remove-reads : orderOf (3 ∷ 3 ∷ 1 ∷ []) ≡ got (plainly (RemoveLink 3 1)) 3
   pub remove : changedOf (linkedK 10) (plainly (RemoveLink 3 1)) ≡ K
   pub remove-fits : placeTried (linkedK 10) (RemoveLink 3 1) ≡ Done
   pub shorten : changedOf K (plainly (Deadline (record { 0 = 9 }))) ≡ shorterK
 
 pub changes : Changes
-unfolding changedOf withDeadlineOf withLinkOf withoutLinkOf addable hasLinkOf placeOf countBefore insertedOf insertedAt removedOf removedAt filled belowOf sum pick K linkedK shorterK curve board
-changes = record { add = refl; add-fits = refl; shorten-linked = refl; remove = refl; remove-fits = refl; shorten = refl }
+unfolding changedOf withDeadlineOf withLinkOf withoutLinkOf addable hasLinkOf placeOf countBefore insertedOf insertedAt removedOf removedAt filled belowOf sum pick orderOf kindFrom deadlineFrom orders.linkFrom and-then fieldAt rangedAt numberAt groupsFrom shortestEnd K linkedK shorterK curve board
+changes = record {
+  add-reads = refl;
+  add = refl;
+  add-fits = refl;
+  shorten-reads = refl;
+  shorten-linked = refl;
+  remove-reads = refl;
+  remove = refl;
+  remove-fits = refl;
+  shorten = refl;
+}

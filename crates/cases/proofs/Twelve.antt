@@ -3,7 +3,7 @@
 use mathlib.Core.Path.{_≡_, refl, sym, ap, _∙_}
 use mathlib.Core.Bool.{true}
 use mathlib.Core.List.{List, [], _∷_}
-use Prim.Native.Nat.{ℕ, zero, suc, _-_, _<_}
+use Prim.Native.Nat.{ℕ, _+_, _<_}
 use native.Mathlib.Omega.{arith}
 use lib.Count.{ones, onesIn, trailingZeros}
 use lib.Dec.{lit<}
@@ -22,6 +22,7 @@ use Rattle.curve.specs.Tests.{every}
 use Rattle.board.specs.declared.Board.{Board}
 use Rattle.board.specs.Board.{usable, view, blankCurve, WellFormed}
 use Rattle.board.specs.Path.{LoopFree}
+use Rattle.cone.specs.Sweeps.{upstreamOf, downstreamOf}
 use Rattle.cone.proofs.Examples.{upstream-K, downstream-K}
 use Rattle.cone.proofs.Loops.{loop-free-ranked, ranked-loop-free}
 use Rattle.kin.specs.declared.Kin.{Kin}
@@ -56,21 +57,175 @@ use Rattle.cases.proofs.Judged.{Known, known-ranked, Slow, At, Made, lo
 use Rattle.cases.proofs.Facts.{linkedK, shorterK, facts, changes}
 use Rattle.cases.proofs.Steps.{worked, another-is, holds-step, also-step, kin-step, power-step, upstream-step, downstream-step, made-order, refused-order, refused-at}
 
--- row i of the table, counted from 1 as 01 does
-abbrev case : ℕ → Case
-case i = getD twelve (i - 1) (row.number [] 0)
+-- ---- boards that show a path too slow
+linked-formed : WellFormed (linkedK 9)
+linked-formed = design-well-formed (fileOf (linkedK 9)) (linkedK 9) _ (facts .readLinked)
 
-case-1 : Promised (case 1)
-unfolding twelve Promised StepsPromised powerAtOf slowestOf ticksOf powerOf savingOf lengthAt savingAt tick sum pick K board curve
-case-1 d t r said =
-    let a = load-accepted K d t r (4 ∷ 3 ∷ 3 ∷ 6 ∷ []) (facts .ofK) said in
-    let at = a .1 in
-    (
-      a .0,
-      (power-step at 0 2 refl,
-      (power-step at 0 3 refl,
-      (power-step at 0 4 refl,
-      (power-step at 0 5 refl,
-      (record { why = OffCurve; numbered = refl; is = power-step at 0 1 refl },
-      (record { why = OffCurve; numbered = refl; is = power-step at 0 6 refl }, tt)))))),
-    )
+long-formed : WellFormed (long 4)
+long-formed = design-well-formed (fileOf (long 4)) (long 4) _ (facts .readLong)
+
+-- a deadline is no part of what has no loop
+linked-free : LoopFree (linkedK 9)
+unfolding view linkedK board curve
+linked-free = ranked-loop-free (linkedK 9) _ (known-ranked (linkedK 10) _ (facts .ofLinked))
+
+long-free : LoopFree (long 4)
+unfolding view long board curve
+long-free = ranked-loop-free (long 4) _ (known-ranked (long 5) _ (facts .ofLong5))
+
+slow-linked : Slow (linkedK 9) 10 (0 ∷ 3 ∷ 1 ∷ 2 ∷ [])
+unfolding boardK linkedK board curve
+slow-linked = record {
+  formed = linked-formed;
+  free = linked-free;
+  only = case-9 (record { formed = linked-formed; ranked = loop-free-ranked (linkedK 9) linked-formed linked-free });
+}
+
+slow-long : Slow (long 4) 5 (0 ∷ [])
+unfolding board1 long board curve
+slow-long = record {
+  formed = long-formed;
+  free = long-free;
+  only = case-7 (record { formed = long-formed; ranked = loop-free-ranked (long 4) long-formed long-free });
+}
+
+-- ---- the orders of cases (8), (9) and (10), each from where the one before it left the desk
+module _ {n : Tally} {d : Desk} {t : Tally} (room : n .taken + n .refused < 65535) (r : Ordered) where
+  adds-link : At K n d t → OrderSaid d (2 ∷ 3 ∷ 1 ∷ []) t r → Made r 3 (linkedK 10) (oneTaken n)
+  adds-link at =
+      order-made K n d t at room (2 ∷ 3 ∷ 1 ∷ []) (plainly (AddLink 3 1)) 3 (changes .add-reads) (changes .add-fits) r (linkedK 10) (changes .add) _
+      (facts .ofLinked)
+
+  too-short : At (linkedK 10) n d t → OrderSaid d (1 ∷ 9 ∷ []) t r → r ≡ orderRefused TooSlow 10 2 (0 ∷ 3 ∷ 1 ∷ 2 ∷ []) d t
+  too-short at =
+      order-refused (linkedK 10) n d t at room (1 ∷ 9 ∷ []) (plainly (Deadline (record { 0 = 9 }))) 2 (changes .shorten-reads) refl r (linkedK 9)
+      (changes .shorten-linked) 10 _ slow-linked
+
+  removes-link : At (linkedK 10) n d t → OrderSaid d (3 ∷ 3 ∷ 1 ∷ []) t r → Made r 3 K (oneTaken n)
+  removes-link at =
+      order-made (linkedK 10) n d t at room (3 ∷ 3 ∷ 1 ∷ []) (plainly (RemoveLink 3 1)) 3 (changes .remove-reads) (changes .remove-fits) r K
+      (changes .remove) _ (facts .ofK)
+
+  shortens : At K n d t → OrderSaid d (1 ∷ 9 ∷ []) t r → Made r 2 shorterK (oneTaken n)
+  shortens at =
+      order-made K n d t at room (1 ∷ 9 ∷ []) (plainly (Deadline (record { 0 = 9 }))) 2 (changes .shorten-reads) refl r shorterK (changes .shorten) _
+      (facts .ofShorter)
+
+-- ---- case (12)
+kin-of-K : (k : Kin) → KinOf (Critical K (worked K (4 ∷ 3 ∷ 3 ∷ 6 ∷ []) .start) (worked K (4 ∷ 3 ∷ 3 ∷ 6 ∷ []) .end)) 0 k → KinAre k 1 10
+unfolding valueOf budgetOf firsts timesBy endsOf endsBy table arrive greatest share view pick K board curve
+kin-of-K k is =
+    let same = kin-K K refl refl refl refl (worked K (4 ∷ 3 ∷ 3 ∷ 6 ∷ []) .start) (worked K (4 ∷ 3 ∷ 3 ∷ 6 ∷ []) .end) refl refl refl refl refl k is in
+    record { parents-are = ap (λ (x : Kin). x .parents) same; children-are = ap (λ (x : Kin). x .children) same }
+
+upstream-of-K : upstreamOf K 2 ≡ 7
+unfolding K board
+upstream-of-K = upstream-K K refl refl refl refl
+
+downstream-of-K : downstreamOf K 0 ≡ 15
+unfolding K board
+downstream-of-K = downstream-K K refl refl refl refl
+
+-- ---- a budget alone
+held-row :
+    (b : Board) (delays : List ℕ) → Known b delays → {ds ends : List ℕ} {total : ℕ} → Shows (worked b delays) ds ends total →
+    Promised (row.board b (row.holds ds ends total ∷ []))
+unfolding Promised StepsPromised
+held-row b delays k is d t r said =
+    let a = load-accepted b d t r delays k said in
+    (a .0, (holds-step (a .1) k is, tt))
+
+-- ---- all twelve
+pub all-promised : All Promised twelve
+unfolding All twelve Promised StepsPromised padded valueOf budgetOf delaysOf powersOf totalOf firsts timesBy fits settled inTime onCurves endsOf endsBy table every arrive greatest share sum tick view usable powerAtOf powerOf slowestOf savingOf ticksOf lengthAt savingAt pick fileOf partsBytes linksBytes curveBytes runsBytes inRow encode encodeIn numberAt groupsFrom shortestEnd ones onesIn K fileK D flat long linkedK shorterK board curve
+all-promised = (
+  -- (1)
+  (λ d t r said.
+  let a = load-accepted K d t r _ (facts .ofK) said in
+  let at = a .1 in
+  (a .0,
+  (power-step at 0 2 refl,
+  (power-step at 0 3 refl,
+  (power-step at 0 4 refl,
+  (power-step at 0 5 refl,
+  (record { why = OffCurve; numbered = refl; is = power-step at 0 1 refl },
+  (record { why = OffCurve; numbered = refl; is = power-step at 0 6 refl }, tt)))))))),
+  -- (2)
+  (((refl, facts .ofK .read),
+  λ d t r said.
+  let a = load-accepted K d t r _ (facts .ofK) said in
+  (a .0,
+  (holds-step (a .1) (facts .ofK) (record { delays-are = refl; ends-are = refl; total-is = refl }),
+  (also-step (a .1) (facts .ofK)
+  (another-is K _ (facts .ofK) _ refl _ _ (record { delays-are = refl; ends-are = refl; total-is = refl }) refl refl 1 refl), tt)))),
+  -- (3)
+  (held-row (D 5) _ (facts .ofD) (record { delays-are = refl; ends-are = refl; total-is = refl }),
+  -- (4)
+  ((λ d t r said.
+  let a = load-accepted (D 6) d t r _ (facts .ofD6) said in
+  (a .0,
+  (holds-step (a .1) (facts .ofD6) (record { delays-are = refl; ends-are = refl; total-is = refl }),
+  (also-step (a .1) (facts .ofD6)
+  (another-is (D 6) _ (facts .ofD6) _ refl _ _ (record { delays-are = refl; ends-are = refl; total-is = refl }) refl refl 0 refl), tt)))),
+  -- (5)
+  (held-row flat _ (facts .ofFlat) (record { delays-are = refl; ends-are = refl; total-is = refl }),
+  -- (6)
+  (held-row (long 4095) _ (facts .ofLong) (record { delays-are = refl; ends-are = refl; total-is = refl }),
+  -- (7)
+  ((held-row (long 5) _ (facts .ofLong5) (record { delays-are = refl; ends-are = refl; total-is = refl }),
+  λ d t r said.
+  let is = load-refused (long 4) d t r (facts .readLong) 5 _ slow-long said in
+  record {
+    refused = record { why = TooSlow; numbered = refl; is = ap (λ (x : Loaded). x .answer) is };
+    path-is = ap (λ (x : Loaded). x .path) is;
+    desk-stays = ap (λ (x : Loaded). x .desk) is;
+    tally-stays = ap (λ (x : Loaded). x .tally) is;
+  }),
+  -- (8)
+  ((λ d t r said.
+  let a = load-accepted K d t r _ (facts .ofK) said in
+  (a .0,
+  λ r₁ said₁.
+  let m = adds-link (lit< tt) r₁ (a .1) said₁ in
+  (made-order refl m, (holds-step (m .at) (facts .ofLinked) (record { delays-are = refl; ends-are = refl; total-is = refl }), tt)))),
+  -- (9)
+  ((λ d t r said.
+  let a = load-accepted K d t r _ (facts .ofK) said in
+  (a .0,
+  λ r₁ said₁.
+  let m = adds-link (lit< tt) r₁ (a .1) said₁ in
+  (made-order refl m,
+  λ r₂ said₂.
+  let is = too-short (lit< tt) r₂ (m .at) said₂ in
+  (refused-order r₂ 10 2 _ (r₁ .desk) (r₁ .tally) is refl,
+  (holds-step (refused-at r₂ 10 2 _ (r₁ .desk) (r₁ .tally) is (m .at)) (facts .ofLinked)
+  (record { delays-are = refl; ends-are = refl; total-is = refl }), tt))))),
+  -- (10)
+  ((λ d t r said.
+  let a = load-accepted K d t r _ (facts .ofK) said in
+  (a .0,
+  λ r₁ said₁.
+  let m = adds-link (lit< tt) r₁ (a .1) said₁ in
+  (made-order refl m,
+  λ r₂ said₂.
+  let is = too-short (lit< tt) r₂ (m .at) said₂ in
+  (refused-order r₂ 10 2 _ (r₁ .desk) (r₁ .tally) is refl,
+  λ r₃ said₃.
+  let m₃ = removes-link (lit< tt) r₃ (refused-at r₂ 10 2 _ (r₁ .desk) (r₁ .tally) is (m .at)) said₃ in
+  (made-order refl m₃,
+  λ r₄ said₄.
+  let m₄ = shortens (lit< tt) r₄ (m₃ .at) said₄ in
+  (made-order refl m₄,
+  (holds-step (m₄ .at) (facts .ofShorter) (record { delays-are = refl; ends-are = refl; total-is = refl }),
+  (record { taken-are = ap (λ (x : Tally). x .taken) (m₄ .at .tally); refused-are = ap (λ (x : Tally). x .refused) (m₄ .at .tally) }, tt)))))))),
+  -- (11)
+  ((refl, record { why = NotShortest; numbered = refl; is = refl }),
+  -- (12)
+  ((λ d t r said.
+  let a = load-accepted K d t r _ (facts .ofK) said in
+  let at = a .1 in
+  (a .0,
+  (upstream-step at (lit< tt) upstream-of-K refl,
+  (downstream-step at (lit< tt) downstream-of-K refl,
+  (kin-step at (facts .ofK) kin-of-K, tt))))), tt)))))))))))
+)
