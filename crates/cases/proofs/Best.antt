@@ -1,14 +1,13 @@
 -- A test that a budget is the one held, and its law. The idea: it goes through every budget with delays on the curves, finds its ends in
 -- rounds and sees that one more round changes nothing, and then compares. So each comparison is computed, and one law covers every board.
 -- Assumes nothing.
-use mathlib.Core.Path.{_≡_, refl, sym, ap, _∙_, subst}
+use mathlib.Core.Path.{_≡_, refl, ap, _∙_, subst}
 use mathlib.Core.Logic.{⊎-elim}
 use mathlib.Core.Bool.{Bool, true, false}
 use mathlib.Core.List.{List, [], _∷_}
 use Prim.Native.Nat.{ℕ, zero, suc, _+_, _-_, _≤_, _<_}
 use native.Mathlib.Omega.{arith}
 use lib.Dec.{leb, eqb}
-use lib.ListN.{getD}
 use borrow.Author.Tests.{leb-true, le-leb, eqb-true, eq-eqb}
 use Rattle.base.specs.Pick.{pick}
 use Rattle.base.proofs.Cases.{lt-or-le}
@@ -17,7 +16,7 @@ use Rattle.theory.specs.Saving.{saves}
 use Rattle.theory.specs.Graph.{Graph, Times, Lawful, Ranked, total}
 use Rattle.theory.specs.Budget.{arrive, Timed, Budget, Held}
 use Rattle.theory.proofs.SumLaws.{sum-ext}
-use Rattle.theory.proofs.TimedLaws.{timed-once, budget-timed, delays-budget, budget-feasible}
+use Rattle.theory.proofs.TimedLaws.{timed-once, delays-budget, budget-feasible}
 use Rattle.theory.proofs.Rounds.{feasible-ranked}
 use Rattle.curve.specs.Tests.{both, every}
 use Rattle.curve.proofs.GoodLaws.{every-at, every-all}
@@ -100,8 +99,11 @@ module _ (G : Graph) where
   allDelays zero ds test = test ds
   allDelays (suc k) ds test = every (suc (G .ticks k)) (λ t. allDelays k ((G .fastest k + t) ∷ ds) test)
 
+  unfoldable pub beats : ℕ → List ℕ → List ℕ → Bool
+  beats T ds es = yields T (endsOf ds) (costOf ds) es (endsOf es) (costOf es)
+
   unfoldable pub best : ℕ → List ℕ → Bool
-  best T ds = both (fits T ds (endsOf ds)) (allDelays (G .parts) [] (λ es. yields T (endsOf ds) (costOf ds) es (endsOf es) (costOf es)))
+  best T ds = both (fits T ds (endsOf ds)) (allDelays (G .parts) [] (beats T ds))
 
   -- ---- laws
   settled-timed : (ds e : List ℕ) → settled ds e ≡ true → Timed G (cells ds) (arrive G (cells e)) (cells e)
@@ -118,20 +120,23 @@ module _ (G : Graph) where
       delays-budget G (settled-timed ds (endsOf ds) (a .0)) (λ p l. leb-true _ _ (every-at _ (G .parts) (a₂ .0) p l))
       (λ p l. leb-true _ _ (on p l .0)) (λ p l. leb-true _ _ (on p l .1))
 
-  module _ (test : List ℕ → Bool) (f : ℕ → ℕ) (from : (p : ℕ) → p < G .parts → G .fastest p ≤ f p) (to : (p : ℕ) → p < G .parts → f p ≤ G .fastest p + G .ticks p) where
-    all-at : (k : ℕ) → k ≤ G .parts → (ds : List ℕ) → allDelays k ds test ≡ true → test (listed k f ds) ≡ true
-    unfolding allDelays listed
-    all-at zero l ds h = h
-    all-at (suc k) l ds h =
-        let a = from k (omega arith) in
-        let b = to k (omega arith) in
-        let here : allDelays k ((G .fastest k + (f k - G .fastest k)) ∷ ds) test ≡ true =
-        every-at (λ t. allDelays k ((G .fastest k + t) ∷ ds) test) (suc (G .ticks k)) h (f k - G .fastest k) (omega arith) in
-        let is : G .fastest k + (f k - G .fastest k) ≡ f k = omega arith in
-        all-at k (omega arith) (f k ∷ ds) (subst (λ (d : ℕ). allDelays k (d ∷ ds) test ≡ true) is here)
+  -- a test of all delays is a test of any
+  module _ (test : List ℕ → Bool) (f : ℕ → ℕ)
+      (from : (p : ℕ) → p < G .parts → G .fastest p ≤ f p) (to : (p : ℕ) → p < G .parts → f p ≤ G .fastest p + G .ticks p)
+    where
+      all-at : (k : ℕ) → k ≤ G .parts → (ds : List ℕ) → allDelays k ds test ≡ true → test (listed k f ds) ≡ true
+      unfolding allDelays listed
+      all-at zero l ds h = h
+      all-at (suc k) l ds h =
+          let a = from k (omega arith) in
+          let b = to k (omega arith) in
+          let here : allDelays k ((G .fastest k + (f k - G .fastest k)) ∷ ds) test ≡ true =
+          every-at (λ t. allDelays k ((G .fastest k + t) ∷ ds) test) (suc (G .ticks k)) h (f k - G .fastest k) (omega arith) in
+          let is : G .fastest k + (f k - G .fastest k) ≡ f k = omega arith in
+          all-at k (omega arith) (f k ∷ ds) (subst (λ (d : ℕ). allDelays k (d ∷ ds) test ≡ true) is here)
 
   module _ (o : Lawful G) (T : ℕ) (ds : List ℕ) (h : best T ds ≡ true) where
-    two : (fits T ds (endsOf ds) ≡ true) × (allDelays (G .parts) [] (λ es. yields T (endsOf ds) (costOf ds) es (endsOf es) (costOf es)) ≡ true)
+    two : (fits T ds (endsOf ds) ≡ true) × (allDelays (G .parts) [] (beats T ds) ≡ true)
     unfolding best
     two = both-parts _ _ h
 
@@ -152,11 +157,15 @@ module _ (G : Graph) where
       unfolding es delay
       delay-is p l = listed-at delay (G .parts) p [] l
 
-      tested : both (settled es (endsOf es)) (pick (inTime T (endsOf es)) (both (leb (costOf ds) (costOf es)) (pick (eqb (costOf es) (costOf ds)) (noLater (endsOf ds) (endsOf es)) true)) true) ≡ true
-      unfolding yields es delay
-      tested =
-          all-at (λ es. yields T (endsOf ds) (costOf ds) es (endsOf es) (costOf es)) delay (λ p l. omega arith) (λ p l. omega (arith, b .in-range p l)) (G .parts) (omega arith) []
-          (two .1)
+      cheap : Bool
+      cheap = leb (costOf ds) (costOf es)
+
+      soon : Bool
+      soon = pick (eqb (costOf es) (costOf ds)) (noLater (endsOf ds) (endsOf es)) true
+
+      tested : both (settled es (endsOf es)) (pick (inTime T (endsOf es)) (both cheap soon) true) ≡ true
+      unfolding beats yields es delay cheap soon
+      tested = all-at (beats T ds) delay (λ p l. omega arith) (λ p l. omega (arith, b .in-range p l)) (G .parts) (omega arith) [] (two .1)
 
       -- so the ends found are those of τ
       end-is : (p : ℕ) → p < G .parts → cells (endsOf es) p ≡ τ .end p
@@ -168,24 +177,28 @@ module _ (G : Graph) where
       unfolding costOf total
       cost-is =
           sum-ext (G .parts)
-          (λ p l. let used : cells es p - G .fastest p ≡ τ .used p = omega (arith, delay-is p l) in ap (λ t. G .power p - saves (G .saving p) t) used)
+          (λ p l.
+          let used : cells es p - G .fastest p ≡ τ .used p = omega (arith, delay-is p l) in
+          ap (λ t. G .power p - saves (G .saving p) t) used)
 
       in-time : inTime T (endsOf es) ≡ true
       unfolding inTime
       in-time = every-all (λ p. leb (cells (endsOf es) p) T) (G .parts) (λ p l. le-leb (cells (endsOf es) p) T (omega (arith, end-is p l, b .ends p l)))
 
-      compared : (leb (costOf ds) (costOf es) ≡ true) × (pick (eqb (costOf es) (costOf ds)) (noLater (endsOf ds) (endsOf es)) true ≡ true)
+      compared : (cheap ≡ true) × (soon ≡ true)
       compared = both-parts _ _ (picked _ _ in-time (both-parts _ _ tested .1))
 
       cheaper : costOf ds ≤ total G τ
+      unfolding cheap
       cheaper = omega (arith, cost-is, leb-true (costOf ds) (costOf es) (compared .0))
 
       sooner : total G τ ≤ costOf ds → (p : ℕ) → p < G .parts → cells (endsOf ds) p ≤ τ .end p
-      unfolding noLater
+      unfolding soon noLater
       sooner no-more p l =
           let same : costOf es ≡ costOf ds = omega (arith, cost-is, cheaper) in
           let all : noLater (endsOf ds) (endsOf es) ≡ true = picked _ _ (eq-eqb (costOf es) (costOf ds) same) (compared .1) in
-          omega (arith, end-is p l, leb-true (cells (endsOf ds) p) (cells (endsOf es) p) (every-at (λ p. leb (cells (endsOf ds) p) (cells (endsOf es) p)) (G .parts) all p l))
+          let here : leb (cells (endsOf ds) p) (cells (endsOf es) p) ≡ true = every-at _ (G .parts) all p l in
+          omega (arith, end-is p l, leb-true (cells (endsOf ds) p) (cells (endsOf es) p) here)
 
     pub best-held : Held G T (timesBy ds)
     unfolding timesBy total costOf

@@ -1,8 +1,7 @@
 -- What is computed of the boards of the table: each file reads back, each budget passes its test, and each order makes of one board the next.
 -- Assumes nothing.
 use mathlib.Core.Path.{_≡_, refl}
-use mathlib.Core.Bool.{true}
-use mathlib.Core.List.{List, [], _∷_}
+use mathlib.Core.List.{[], _∷_}
 use Prim.Native.Nat.{ℕ}
 use lib.ListN.{length}
 use Rattle.base.specs.Pick.{pick}
@@ -27,7 +26,7 @@ use Rattle.orders.specs.Order.{plainly, deadlineFrom, kindFrom, orderOf}
 use Rattle.orders.specs.Order as orders
 use Rattle.desk.specs.Order.{changedOf, placeTried}
 use Rattle.cases.specs.Boards.{curve, link, board, curvesK, K, D, flat, long}
-use Rattle.cases.proofs.Best.{endsBy, endsOf, costOf, settled, inTime, onCurves, noLater, fits, yields, allDelays, best}
+use Rattle.cases.proofs.Best.{endsBy, endsOf, costOf, settled, inTime, onCurves, noLater, fits, yields, beats, allDelays, best}
 use Rattle.cases.proofs.Judged.{Known}
 
 -- K with link 3 to 1, and with deadline 9 too; K with deadline 9
@@ -50,7 +49,7 @@ pub record Facts : Type 0 where
   pub readLong : designOf (fileOf (long 4)) ≡ got (long 4) (length (fileOf (long 4)))
 
 pub facts : Facts
-unfolding best fits yields allDelays settled inTime onCurves noLater costOf endsOf endsBy table every arrive greatest share sum tick view usable savingOf ticksOf savingsOf lengthAt savingAt pick designOf headFrom bodyFrom linkedFrom wholeAt linksFrom linkFrom above partsFrom partFrom inPlace versionAt curveFrom runsFrom runFrom falls bare fieldAt rangedAt repeat and-then numberAt groupsFrom shortestEnd fileOf partsBytes linksBytes curveBytes runsBytes inRow encode encodeIn blankCurves blankLinks blankCurve belowOf K D flat long linkedK shorterK curve board
+unfolding best beats fits yields allDelays settled inTime onCurves noLater costOf endsOf endsBy table every arrive greatest share sum tick view usable savingOf ticksOf savingsOf lengthAt savingAt pick designOf headFrom bodyFrom linkedFrom wholeAt linksFrom linkFrom above partsFrom partFrom inPlace versionAt curveFrom runsFrom runFrom falls bare fieldAt rangedAt repeat and-then numberAt groupsFrom shortestEnd fileOf partsBytes linksBytes curveBytes runsBytes inRow encode encodeIn blankCurves blankLinks blankCurve belowOf K D flat long linkedK shorterK curve board
 facts = record {
   ofK = record { read = refl; test = refl };
   ofD = record { read = refl; test = refl };

@@ -2,19 +2,17 @@
 -- Assumes nothing.
 use mathlib.Core.Path.{_≡_, refl, sym, ap, _∙_, subst}
 use mathlib.Core.Bool.{true}
-use mathlib.Core.List.{List, []}
-use Prim.Native.Nat.{ℕ, _+_, _<_}
+use mathlib.Core.List.{List}
+use Prim.Native.Nat.{ℕ, _<_}
 use lib.Count.{ones}
 use lib.Dec.{ltb, leb}
 use lib.ListN.{length}
 use borrow.Author.Tests.{leb-true, ltb-true}
 use Rattle.base.specs.Pick.{pick}
 use Rattle.theory.specs.Sum.{cells}
-use Rattle.refusal.specs.declared.Why.{Why}
 use Rattle.refusal.specs.declared.Why.the-variants.{TooSlow}
-use Rattle.refusal.specs.Refusal.{numberOf}
+use Rattle.refusal.specs.declared.Answer.the-variants.{Refused}
 use Rattle.curve.specs.declared.Power.{Power}
-use Rattle.curve.specs.declared.Power.the-variants as power
 use Rattle.curve.specs.Answers.{powerAtOf}
 use Rattle.curve.specs.Tests.{every}
 use Rattle.curve.proofs.GoodLaws.{every-at}
@@ -26,25 +24,26 @@ use Rattle.cone.proofs.Cones.{upstream-is, upstream-once, downstream-is, downst
 use Rattle.kin.specs.declared.Kin.{Kin}
 use Rattle.kin.specs.Critical.{Critical}
 use Rattle.kin.specs.Kin.{KinOf}
-use Rattle.slow.specs.Walk.{trailOf}
 use Rattle.budget.specs.declared.Budget.{Budget}
 use Rattle.budget.specs.Made.{valueOf}
 use Rattle.budget.proofs.BudgetLaws.{value-allowed}
-use Rattle.design.specs.Design.{fileOf}
-use Rattle.orders.specs.declared.Order.{Order}
 use Rattle.desk.specs.declared.Tally.{Tally}
 use Rattle.desk.specs.declared.Desk.{Desk}
 use Rattle.desk.specs.declared.Loaded.{Loaded}
 use Rattle.desk.specs.declared.Ordered.{Ordered}
-use Rattle.desk.specs.Load.{noTally, loadRefused}
+use Rattle.desk.specs.Load.{loadRefused}
 use Rattle.desk.specs.Order.{oneRefused, refusedTally, orderRefused}
-use Rattle.cases.specs.Promised.{padded, RefusedBy, Shows, Later, Another, Marks, KinAre, LoadRefused, OrderMade, OrderRefused}
+use Rattle.cases.specs.Promised.{padded, Shows, Another, Marks, KinAre, LoadRefused, OrderMade, OrderRefused, Counts}
 use Rattle.cases.proofs.Best.{endsOf, timesBy, fits, fits-budget}
 use Rattle.cases.proofs.Judged.{Known, known-formed, At, at-budget, Made}
 
 -- the budget that was worked out
 abbrev pub worked : Board → List ℕ → Budget
 worked b delays = valueOf b (timesBy (view b) delays)
+
+-- ---- a budget that shows these numbers
+pub shows-is : {r : Budget} {delays ends : List ℕ} {total : ℕ} → r .delay ≡ padded delays → r .end ≡ padded ends → r .total ≡ total → Shows r delays ends total
+shows-is delays ends total = record { delays-are = delays; ends-are = ends; total-is = total }
 
 -- ---- another budget, by its own test and by comparison place by place
 module _ (b : Board) (delays : List ℕ) (k : Known b delays) (others : List ℕ) (fit : fits (view b) (usable b) others (endsOf (view b) others) ≡ true) where
@@ -103,6 +102,20 @@ module _ {b : Board} {n : Tally} {d : Desk} {t : Tally} (at : At b n d t) where
       downstream-once (d .board) part s (downstreamOf (d .board) part) down (downstream-is (d .board) (at .holding .kept .formed) part here)
       ∙ ap (λ (x : Board). downstreamOf x part) (at .board) ∙ is in
       record { set-is = same; count-is = ap ones same ∙ many }
+
+  pub counts-are : Counts t (n .taken) (n .refused)
+  counts-are = record { taken-are = ap (λ (x : Tally). x .taken) (at .tally); refused-are = ap (λ (x : Tally). x .refused) (at .tally) }
+
+-- ---- a load that is refused
+pub refused-load :
+    (r : Loaded) (ticks : ℕ) (path : List ℕ) (d : Desk) (t : Tally) → r ≡ loadRefused (Refused TooSlow ticks) path d t →
+    LoadRefused d t r 10 ticks path
+refused-load r ticks path d t is = record {
+  refused = record { why = TooSlow; numbered = refl; is = ap (λ (x : Loaded). x .answer) is };
+  path-is = ap (λ (x : Loaded). x .path) is;
+  desk-stays = ap (λ (x : Loaded). x .desk) is;
+  tally-stays = ap (λ (x : Loaded). x .tally) is;
+}
 
 -- ---- orders
 pub made-order : {r : Ordered} {took : ℕ} {b : Board} {n : Tally} {bytes : List ℕ} → took ≡ length bytes → Made r took b n → OrderMade bytes r

@@ -1,26 +1,21 @@
 -- The one statement: of every row of the table, what the contracts promise gives the row's answers.
 -- Assumes nothing.
-use mathlib.Core.Path.{_≡_, refl, sym, ap, _∙_}
-use mathlib.Core.Bool.{true}
+use mathlib.Core.Path.{_≡_, refl, ap}
 use mathlib.Core.List.{List, [], _∷_}
 use Prim.Native.Nat.{ℕ, _+_, _<_}
-use native.Mathlib.Omega.{arith}
-use lib.Count.{ones, onesIn, trailingZeros}
+use lib.Count.{ones, onesIn}
 use lib.Dec.{lit<}
-use lib.ListN.{length, getD}
 use Rattle.base.specs.Pick.{pick}
 use Rattle.refusal.specs.declared.Why.the-variants.{NotShortest, TooSlow, OffCurve}
-use Rattle.refusal.specs.declared.Answer.the-variants.{Refused}
-use Rattle.theory.specs.Sum.{sum, share, cells}
+use Rattle.theory.specs.Sum.{sum, share}
 use Rattle.theory.specs.Saving.{tick}
-use Rattle.theory.specs.Graph.{Ranked}
 use Rattle.theory.specs.Budget.{greatest, arrive}
 use Rattle.groups.specs.Number.{shortestEnd, groupsFrom, numberAt, encodeIn, encode}
 use Rattle.curve.specs.Curve.{lengthAt, savingAt, ticksOf, slowestOf, savingOf, powerOf}
 use Rattle.curve.specs.Answers.{powerAtOf}
 use Rattle.curve.specs.Tests.{every}
 use Rattle.board.specs.declared.Board.{Board}
-use Rattle.board.specs.Board.{usable, view, blankCurve, WellFormed}
+use Rattle.board.specs.Board.{usable, view, WellFormed}
 use Rattle.board.specs.Path.{LoopFree}
 use Rattle.cone.specs.Sweeps.{upstreamOf, downstreamOf}
 use Rattle.cone.proofs.Examples.{upstream-K, downstream-K}
@@ -30,32 +25,26 @@ use Rattle.kin.specs.Critical.{Critical}
 use Rattle.kin.specs.Kin.{KinOf}
 use Rattle.kin.proofs.Examples.{kin-K}
 use Rattle.times.specs.Times.{table, firsts}
-use Rattle.slow.specs.Slow.{Loopless, shown}
-use Rattle.slow.specs.Walk.{trailOf}
 use Rattle.slow.proofs.ShownCases.{boardK, board1, case-9, case-7}
 use Rattle.budget.specs.Made.{delaysOf, powersOf, totalOf, budgetOf, valueOf}
-use Rattle.fields.specs.Parse.{got, and-then, rangedAt, fieldAt}
 use Rattle.fields.specs.Writing.{inRow}
 use Rattle.fields.specs.CurveFile.{runsBytes, curveBytes}
-use Rattle.design.specs.Design.{designOf, partsBytes, linksBytes, fileOf}
+use Rattle.design.specs.Design.{partsBytes, linksBytes, fileOf}
 use Rattle.design.proofs.DesignLaws.{design-well-formed}
 use Rattle.orders.specs.declared.Change.the-variants.{Deadline, AddLink, RemoveLink}
-use Rattle.orders.specs.Order.{plainly, deadlineFrom, linkFrom, kindFrom, orderOf}
+use Rattle.orders.specs.Order.{plainly}
 use Rattle.desk.specs.declared.Tally.{Tally}
 use Rattle.desk.specs.declared.Desk.{Desk}
-use Rattle.desk.specs.declared.Loaded.{Loaded}
 use Rattle.desk.specs.declared.Ordered.{Ordered}
-use Rattle.desk.specs.Load.{noTally, loadRefused}
-use Rattle.desk.specs.Order.{oneTaken, oneRefused, orderRefused, OrderSaid}
-use Rattle.cases.specs.Boards.{curve, board, curvesK, K, fileK, D, flat, long}
-use Rattle.cases.specs.Rows.{Case}
+use Rattle.desk.specs.Order.{oneTaken, orderRefused, OrderSaid}
+use Rattle.cases.specs.Boards.{curve, board, K, fileK, D, flat, long}
 use Rattle.cases.specs.Rows as row
-use Rattle.cases.specs.Promised.{padded, Shows, Another, KinAre, LoadRefused, OrderMade, OrderRefused, StepsPromised, Promised, All}
+use Rattle.cases.specs.Promised.{padded, Shows, KinAre, StepsPromised, Promised, All}
 use Rattle.cases.specs.Table.{twelve}
 use Rattle.cases.proofs.Best.{endsBy, endsOf, timesBy, settled, inTime, onCurves, fits}
 use Rattle.cases.proofs.Judged.{Known, known-ranked, Slow, At, Made, load-accepted, load-refused, order-made, order-refused}
 use Rattle.cases.proofs.Facts.{linkedK, shorterK, facts, changes}
-use Rattle.cases.proofs.Steps.{worked, another-is, holds-step, also-step, kin-step, power-step, upstream-step, downstream-step, made-order, refused-order, refused-at}
+use Rattle.cases.proofs.Steps.{worked, another-is, holds-step, also-step, kin-step, power-step, upstream-step, downstream-step, shows-is, refused-load, made-order, refused-order, refused-at, counts-are}
 
 -- ---- boards that show a path too slow
 linked-formed : WellFormed (linkedK 9)
@@ -126,106 +115,91 @@ downstream-of-K : downstreamOf K 0 ≡ 15
 unfolding K board
 downstream-of-K = downstream-K K refl refl refl refl
 
--- ---- a budget alone
+-- ---- rows
+pair : {A B : Type 0} → A → B → A × B
+pair a b = (a, b)
+
+-- a row that holds a budget and no more
 held-row :
     (b : Board) (delays : List ℕ) → Known b delays → {ds ends : List ℕ} {total : ℕ} → Shows (worked b delays) ds ends total →
     Promised (row.board b (row.holds ds ends total ∷ []))
 unfolding Promised StepsPromised
 held-row b delays k is d t r said =
     let a = load-accepted b d t r delays k said in
-    (a .0, (holds-step (a .1) k is, tt))
+    pair (a .0) (pair (holds-step (a .1) k is) tt)
 
--- ---- all twelve
+-- "Proved together": each `refl` is computed, and none of the table's numbers stands here
 pub all-promised : All Promised twelve
 unfolding All twelve Promised StepsPromised padded valueOf budgetOf delaysOf powersOf totalOf firsts timesBy fits settled inTime onCurves endsOf endsBy table every arrive greatest share sum tick view usable powerAtOf powerOf slowestOf savingOf ticksOf lengthAt savingAt pick fileOf partsBytes linksBytes curveBytes runsBytes inRow encode encodeIn numberAt groupsFrom shortestEnd ones onesIn K fileK D flat long linkedK shorterK board curve
-all-promised = (
-  -- (1)
-  (λ d t r said.
-  let a = load-accepted K d t r _ (facts .ofK) said in
-  let at = a .1 in
-  (a .0,
-  (power-step at 0 2 refl,
-  (power-step at 0 3 refl,
-  (power-step at 0 4 refl,
-  (power-step at 0 5 refl,
-  (record { why = OffCurve; numbered = refl; is = power-step at 0 1 refl },
-  (record { why = OffCurve; numbered = refl; is = power-step at 0 6 refl }, tt)))))))),
-  -- (2)
-  (((refl, facts .ofK .read),
-  λ d t r said.
-  let a = load-accepted K d t r _ (facts .ofK) said in
-  (a .0,
-  (holds-step (a .1) (facts .ofK) (record { delays-are = refl; ends-are = refl; total-is = refl }),
-  (also-step (a .1) (facts .ofK)
-  (another-is K _ (facts .ofK) _ refl _ _ (record { delays-are = refl; ends-are = refl; total-is = refl }) refl refl 1 refl), tt)))),
-  -- (3)
-  (held-row (D 5) _ (facts .ofD) (record { delays-are = refl; ends-are = refl; total-is = refl }),
-  -- (4)
-  ((λ d t r said.
-  let a = load-accepted (D 6) d t r _ (facts .ofD6) said in
-  (a .0,
-  (holds-step (a .1) (facts .ofD6) (record { delays-are = refl; ends-are = refl; total-is = refl }),
-  (also-step (a .1) (facts .ofD6)
-  (another-is (D 6) _ (facts .ofD6) _ refl _ _ (record { delays-are = refl; ends-are = refl; total-is = refl }) refl refl 0 refl), tt)))),
-  -- (5)
-  (held-row flat _ (facts .ofFlat) (record { delays-are = refl; ends-are = refl; total-is = refl }),
-  -- (6)
-  (held-row (long 4095) _ (facts .ofLong) (record { delays-are = refl; ends-are = refl; total-is = refl }),
-  -- (7)
-  ((held-row (long 5) _ (facts .ofLong5) (record { delays-are = refl; ends-are = refl; total-is = refl }),
-  λ d t r said.
-  let is = load-refused (long 4) d t r (facts .readLong) 5 _ slow-long said in
-  record {
-    refused = record { why = TooSlow; numbered = refl; is = ap (λ (x : Loaded). x .answer) is };
-    path-is = ap (λ (x : Loaded). x .path) is;
-    desk-stays = ap (λ (x : Loaded). x .desk) is;
-    tally-stays = ap (λ (x : Loaded). x .tally) is;
-  }),
-  -- (8)
-  ((λ d t r said.
-  let a = load-accepted K d t r _ (facts .ofK) said in
-  (a .0,
-  λ r₁ said₁.
-  let m = adds-link (lit< tt) r₁ (a .1) said₁ in
-  (made-order refl m, (holds-step (m .at) (facts .ofLinked) (record { delays-are = refl; ends-are = refl; total-is = refl }), tt)))),
-  -- (9)
-  ((λ d t r said.
-  let a = load-accepted K d t r _ (facts .ofK) said in
-  (a .0,
-  λ r₁ said₁.
-  let m = adds-link (lit< tt) r₁ (a .1) said₁ in
-  (made-order refl m,
-  λ r₂ said₂.
-  let is = too-short (lit< tt) r₂ (m .at) said₂ in
-  (refused-order r₂ 10 2 _ (r₁ .desk) (r₁ .tally) is refl,
-  (holds-step (refused-at r₂ 10 2 _ (r₁ .desk) (r₁ .tally) is (m .at)) (facts .ofLinked)
-  (record { delays-are = refl; ends-are = refl; total-is = refl }), tt))))),
-  -- (10)
-  ((λ d t r said.
-  let a = load-accepted K d t r _ (facts .ofK) said in
-  (a .0,
-  λ r₁ said₁.
-  let m = adds-link (lit< tt) r₁ (a .1) said₁ in
-  (made-order refl m,
-  λ r₂ said₂.
-  let is = too-short (lit< tt) r₂ (m .at) said₂ in
-  (refused-order r₂ 10 2 _ (r₁ .desk) (r₁ .tally) is refl,
-  λ r₃ said₃.
-  let m₃ = removes-link (lit< tt) r₃ (refused-at r₂ 10 2 _ (r₁ .desk) (r₁ .tally) is (m .at)) said₃ in
-  (made-order refl m₃,
-  λ r₄ said₄.
-  let m₄ = shortens (lit< tt) r₄ (m₃ .at) said₄ in
-  (made-order refl m₄,
-  (holds-step (m₄ .at) (facts .ofShorter) (record { delays-are = refl; ends-are = refl; total-is = refl }),
-  (record { taken-are = ap (λ (x : Tally). x .taken) (m₄ .at .tally); refused-are = ap (λ (x : Tally). x .refused) (m₄ .at .tally) }, tt)))))))),
-  -- (11)
-  ((refl, record { why = NotShortest; numbered = refl; is = refl }),
-  -- (12)
-  ((λ d t r said.
-  let a = load-accepted K d t r _ (facts .ofK) said in
-  let at = a .1 in
-  (a .0,
-  (upstream-step at (lit< tt) upstream-of-K refl,
-  (downstream-step at (lit< tt) downstream-of-K refl,
-  (kin-step at (facts .ofK) kin-of-K, tt))))), tt)))))))))))
-)
+all-promised =
+    -- (1)
+    pair (λ d t r said.
+    let a = load-accepted K d t r _ (facts .ofK) said in
+    pair (a .0)
+    (pair (power-step (a .1) 0 2 refl)
+    (pair (power-step (a .1) 0 3 refl)
+    (pair (power-step (a .1) 0 4 refl)
+    (pair (power-step (a .1) 0 5 refl)
+    (pair (record { why = OffCurve; numbered = refl; is = power-step (a .1) 0 1 refl })
+    (pair (record { why = OffCurve; numbered = refl; is = power-step (a .1) 0 6 refl }) tt)))))))
+    -- (2)
+    (pair (pair (refl, facts .ofK .read) (λ d t r said.
+    let a = load-accepted K d t r _ (facts .ofK) said in
+    pair (a .0)
+    (pair (holds-step (a .1) (facts .ofK) (shows-is refl refl refl))
+    (pair (also-step (a .1) (facts .ofK) (another-is K _ (facts .ofK) _ refl _ _ (shows-is refl refl refl) refl refl 1 refl)) tt))))
+    -- (3)
+    (pair (held-row (D 5) _ (facts .ofD) (shows-is refl refl refl))
+    -- (4)
+    (pair (λ d t r said.
+    let a = load-accepted (D 6) d t r _ (facts .ofD6) said in
+    pair (a .0)
+    (pair (holds-step (a .1) (facts .ofD6) (shows-is refl refl refl))
+    (pair (also-step (a .1) (facts .ofD6) (another-is (D 6) _ (facts .ofD6) _ refl _ _ (shows-is refl refl refl) refl refl 0 refl)) tt)))
+    -- (5)
+    (pair (held-row flat _ (facts .ofFlat) (shows-is refl refl refl))
+    -- (6)
+    (pair (held-row (long 4095) _ (facts .ofLong) (shows-is refl refl refl))
+    -- (7)
+    (pair (pair (held-row (long 5) _ (facts .ofLong5) (shows-is refl refl refl)) (λ d t r said.
+    refused-load r _ _ d t (load-refused (long 4) d t r (facts .readLong) _ _ slow-long said)))
+    -- (8)
+    (pair (λ d t r said.
+    let a = load-accepted K d t r _ (facts .ofK) said in
+    pair (a .0) (λ r₁ said₁.
+    let m = adds-link (lit< tt) r₁ (a .1) said₁ in
+    pair (made-order refl m)
+    (pair (holds-step (m .at) (facts .ofLinked) (shows-is refl refl refl)) tt)))
+    -- (9)
+    (pair (λ d t r said.
+    let a = load-accepted K d t r _ (facts .ofK) said in
+    pair (a .0) (λ r₁ said₁.
+    let m = adds-link (lit< tt) r₁ (a .1) said₁ in
+    pair (made-order refl m) (λ r₂ said₂.
+    let is = too-short (lit< tt) r₂ (m .at) said₂ in
+    pair (refused-order r₂ _ _ _ _ _ is refl)
+    (pair (holds-step (refused-at r₂ _ _ _ _ _ is (m .at)) (facts .ofLinked) (shows-is refl refl refl)) tt))))
+    -- (10)
+    (pair (λ d t r said.
+    let a = load-accepted K d t r _ (facts .ofK) said in
+    pair (a .0) (λ r₁ said₁.
+    let m = adds-link (lit< tt) r₁ (a .1) said₁ in
+    pair (made-order refl m) (λ r₂ said₂.
+    let is = too-short (lit< tt) r₂ (m .at) said₂ in
+    pair (refused-order r₂ _ _ _ _ _ is refl) (λ r₃ said₃.
+    let m₃ = removes-link (lit< tt) r₃ (refused-at r₂ _ _ _ _ _ is (m .at)) said₃ in
+    pair (made-order refl m₃) (λ r₄ said₄.
+    let m₄ = shortens (lit< tt) r₄ (m₃ .at) said₄ in
+    pair (made-order refl m₄)
+    (pair (holds-step (m₄ .at) (facts .ofShorter) (shows-is refl refl refl))
+    (pair (counts-are (m₄ .at)) tt)))))))
+    -- (11)
+    (pair (pair refl (record { why = NotShortest; numbered = refl; is = refl }))
+    -- (12)
+    (pair (λ d t r said.
+    let a = load-accepted K d t r _ (facts .ofK) said in
+    pair (a .0)
+    (pair (upstream-step (a .1) (lit< tt) upstream-of-K refl)
+    (pair (downstream-step (a .1) (lit< tt) downstream-of-K refl)
+    (pair (kin-step (a .1) (facts .ofK) kin-of-K) tt))))
+    tt)))))))))))

@@ -8,7 +8,6 @@ use lib.Count.{ones}
 use lib.ListN.{length, replicate}
 use Rattle.theory.specs.Sum.{cells}
 use Rattle.refusal.specs.declared.Why.{Why}
-use Rattle.refusal.specs.declared.Answer.{Answer}
 use Rattle.refusal.specs.declared.Answer.the-variants as answer
 use Rattle.refusal.specs.Refusal.{numberOf}
 use Rattle.groups.specs.declared.Read.the-variants as read

@@ -28,8 +28,8 @@ twelve =
     board K (costs 0 2 100 ∷ costs 0 3 80 ∷ costs 0 4 60 ∷ costs 0 5 55 ∷ costs-not 0 1 19 1 ∷ costs-not 0 6 19 6 ∷ [])
     -- (2) "K: delays 4, 3, 3, 6, ends 4, 7, 10, 10, total 208; delays 4, 5, 1, 6 cost the same and arrive later."
     ∷ both
-        (file K fileK)
-        (board K (holds (4 ∷ 3 ∷ 3 ∷ 6 ∷ []) (4 ∷ 7 ∷ 10 ∷ 10 ∷ []) 208 ∷ also (4 ∷ 5 ∷ 1 ∷ 6 ∷ []) (4 ∷ 9 ∷ 10 ∷ 10 ∷ []) 208 ∷ []))
+    (file K fileK)
+    (board K (holds (4 ∷ 3 ∷ 3 ∷ 6 ∷ []) (4 ∷ 7 ∷ 10 ∷ 10 ∷ []) 208 ∷ also (4 ∷ 5 ∷ 1 ∷ 6 ∷ []) (4 ∷ 9 ∷ 10 ∷ 10 ∷ []) 208 ∷ []))
     -- (3) "D: 1, 2, 2, total 24."
     ∷ board (D 5) (holds (1 ∷ 2 ∷ 2 ∷ []) (1 ∷ 3 ∷ 3 ∷ []) 24 ∷ [])
     -- (4) "D with saving 6 at part 0: 1, 2, 2 again, total 24, though 2, 1, 1 costs 24."
