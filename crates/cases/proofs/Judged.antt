@@ -101,7 +101,9 @@ pub record At (b : Board) (counted : Tally) (d : Desk) (t : Tally) : Type 0 wher
   pub holding : Holding d
   pub tally : t ≡ counted
 
-pub at-budget : (b : Board) (delays : List ℕ) → Known b delays → {n : Tally} {d : Desk} {t : Tally} → At b n d t → d .budget ≡ valueOf b (timesBy (view b) delays)
+pub at-budget :
+    (b : Board) (delays : List ℕ) → Known b delays → {n : Tally} {d : Desk} {t : Tally} → At b n d t →
+    d .budget ≡ valueOf b (timesBy (view b) delays)
 at-budget b delays k {d = d} a =
     holds-once b (known-formed b delays k) (d .budget) (valueOf b (timesBy (view b) delays))
     (subst (λ (x : Board). Holds x (d .budget)) (a .board) (a .holding .kept .holds))
@@ -124,8 +126,7 @@ module _ (b : Board) (d : Desk) (t : Tally) (r : Loaded) where
     load-slow-judged : LoadJudged b d t r → r ≡ loadRefused (Refused TooSlow ticks) path d t
     load-slow-judged (load.refused {path = path′} v is) =
         let s = slow-judged b ticks path k v in
-        is ∙ ap (λ (a : Answer). record { answer = a; path = trailOf path′; desk = d; tally = t }) (s .answer)
-        ∙ ap (λ (p : Trail). record { answer = Refused TooSlow ticks; path = p; desk = d; tally = t }) (s .listed)
+        is ∙ rw (s .answer, s .listed)
     load-slow-judged (load.accepted v a p bo h ta) = never (sym (slow-judged b ticks path k v .answer))
 
     pub load-refused : LoadSaid d (fileOf b) t r → r ≡ loadRefused (Refused TooSlow ticks) path d t
@@ -139,43 +140,43 @@ pub record Made (r : Ordered) (took : ℕ) (b : Board) (counted : Tally) : Type 
   pub at : At b counted (r .desk) (r .tally)
 
 module _ (b : Board) (n : Tally) (d : Desk) (t : Tally) (at : At b n d t) (room : n .taken + n .refused < 65535) where
-  module _ (bytes : List ℕ) (o : Order) (took : ℕ) (reads : orderOf bytes ≡ got o took) (fits : placeTried b (o .change) ≡ Done) (r : Ordered) where
-    order-judged : (b′ : Board) → changedOf b o ≡ b′ → OrderSaid d bytes t r → OrderJudged b′ d t took r
-    order-judged b′ changed said =
-        let tried : triedOf d t o ≡ Done =
-        passed-tried d t o (record {
-          held = at .holding .held;
-          room = rw (at .tally) room;
-          place = ap (λ (x : Board). placeTried x (o .change)) (at .board) ∙ fits;
-        }) in
-        let parsed : OrderTried (triedOf d t o) d t o took r = subst (λ (p : Parse Order). OrderParsed p d t r) reads said in
-        let judged : OrderJudged (changedOf (d .board) o) d t took r = subst (λ (a : Answer). OrderTried a d t o took r) tried parsed in
-        subst (λ (x : Board). OrderJudged x d t took r) (ap (λ (x : Board). changedOf x o) (at .board) ∙ changed) judged
+  module _ (bytes : List ℕ) (o : Order) (took : ℕ) (reads : orderOf bytes ≡ got o took) (fits : placeTried b (o .change) ≡ Done) (r : Ordered)
+    where
+      order-judged : (b′ : Board) → changedOf b o ≡ b′ → OrderSaid d bytes t r → OrderJudged b′ d t took r
+      order-judged b′ changed said =
+          let tried : triedOf d t o ≡ Done =
+          passed-tried d t o (record {
+            held = at .holding .held;
+            room = rw (at .tally) room;
+            place = ap (λ (x : Board). placeTried x (o .change)) (at .board) ∙ fits;
+          }) in
+          let parsed : OrderTried (triedOf d t o) d t o took r = subst (λ (p : Parse Order). OrderParsed p d t r) reads said in
+          let judged : OrderJudged (changedOf (d .board) o) d t took r = subst (λ (a : Answer). OrderTried a d t o took r) tried parsed in
+          subst (λ (x : Board). OrderJudged x d t took r) (ap (λ (x : Board). changedOf x o) (at .board) ∙ changed) judged
 
-    module _ (b′ : Board) (changed : changedOf b o ≡ b′) where
-      module _ (delays : List ℕ) (k : Known b′ delays) where
-        made : OrderJudged b′ d t took r → Made r took b′ (oneTaken n)
-        made (order.refused v is) = never (known-done b′ delays k v)
-        made (order.made v a takes p bo h ta) = record {
-          done = a;
-          took-is = takes;
-          path-is = p;
-          at = record { board = bo; holding = h; tally = ta ∙ ap oneTaken (at .tally) };
-        }
+      module _ (b′ : Board) (changed : changedOf b o ≡ b′) where
+        module _ (delays : List ℕ) (k : Known b′ delays) where
+          made : OrderJudged b′ d t took r → Made r took b′ (oneTaken n)
+          made (order.refused v is) = never (known-done b′ delays k v)
+          made (order.made v a takes p bo h ta) = record {
+            done = a;
+            took-is = takes;
+            path-is = p;
+            at = record { board = bo; holding = h; tally = ta ∙ ap oneTaken (at .tally) };
+          }
 
-        pub order-made : OrderSaid d bytes t r → Made r took b′ (oneTaken n)
-        order-made said = made (order-judged b′ changed said)
+          pub order-made : OrderSaid d bytes t r → Made r took b′ (oneTaken n)
+          order-made said = made (order-judged b′ changed said)
 
-      module _ (ticks : ℕ) (path : List ℕ) (k : Slow b′ ticks path) where
-        order-slow-judged : OrderJudged b′ d t took r → r ≡ orderRefused TooSlow ticks took path d t
-        order-slow-judged (order.refused {why = why} {place = place} {path = path′} v is) =
-            let s = slow-judged b′ ticks path k v in
-            let answer : Refused why place ≡ Refused TooSlow ticks = s .answer in
-            let same : why ≡ TooSlow = cc in
-            is ∙ ap (λ (a : Answer). record { answer = a; took = took; path = trailOf path′; desk = d; tally = refusedTally why t }) answer
-            ∙ ap (λ (l : Trail). record { answer = Refused TooSlow ticks; took = took; path = l; desk = d; tally = refusedTally why t }) (s .listed)
-            ∙ ap (λ (w : Why). record { answer = Refused TooSlow ticks; took = took; path = trailOf path; desk = d; tally = refusedTally w t }) same
-        order-slow-judged (order.made v a takes p bo h ta) = never (sym (slow-judged b′ ticks path k v .answer))
+        module _ (ticks : ℕ) (path : List ℕ) (k : Slow b′ ticks path) where
+          order-slow-judged : OrderJudged b′ d t took r → r ≡ orderRefused TooSlow ticks took path d t
+          order-slow-judged (order.refused {why = why} {place = place} {path = path′} v is) =
+              let s = slow-judged b′ ticks path k v in
+              let answer : Refused why place ≡ Refused TooSlow ticks = s .answer in
+              let same : why ≡ TooSlow = cc in
+              let here : place ≡ ticks = cc in
+              is ∙ rw (same, here, s .listed)
+          order-slow-judged (order.made v a takes p bo h ta) = never (sym (slow-judged b′ ticks path k v .answer))
 
-        pub order-refused : OrderSaid d bytes t r → r ≡ orderRefused TooSlow ticks took path d t
-        order-refused said = order-slow-judged (order-judged b′ changed said)
+          pub order-refused : OrderSaid d bytes t r → r ≡ orderRefused TooSlow ticks took path d t
+          order-refused said = order-slow-judged (order-judged b′ changed said)

@@ -136,12 +136,12 @@ all-promised =
     pair (λ d t r said.
     let a = load-accepted K d t r _ (facts .ofK) said in
     pair (a .0)
-    (pair (power-step (a .1) 0 2 refl)
-    (pair (power-step (a .1) 0 3 refl)
-    (pair (power-step (a .1) 0 4 refl)
-    (pair (power-step (a .1) 0 5 refl)
-    (pair (record { why = OffCurve; numbered = refl; is = power-step (a .1) 0 1 refl })
-    (pair (record { why = OffCurve; numbered = refl; is = power-step (a .1) 0 6 refl }) tt)))))))
+    (pair (power-step (a .1) _ _ refl)
+    (pair (power-step (a .1) _ _ refl)
+    (pair (power-step (a .1) _ _ refl)
+    (pair (power-step (a .1) _ _ refl)
+    (pair (record { why = OffCurve; numbered = refl; is = power-step (a .1) _ _ refl })
+    (pair (record { why = OffCurve; numbered = refl; is = power-step (a .1) _ _ refl }) tt)))))))
     -- (2)
     (pair (pair (refl, facts .ofK .read) (λ d t r said.
     let a = load-accepted K d t r _ (facts .ofK) said in
@@ -177,8 +177,7 @@ all-promised =
     let m = adds-link (lit< tt) r₁ (a .1) said₁ in
     pair (made-order refl m) (λ r₂ said₂.
     let is = too-short (lit< tt) r₂ (m .at) said₂ in
-    pair (refused-order r₂ _ _ _ _ _ is refl)
-    (pair (holds-step (refused-at r₂ _ _ _ _ _ is (m .at)) (facts .ofLinked) (shows-is refl refl refl)) tt))))
+    pair (refused-order r₂ _ _ _ _ _ is refl) tt)))
     -- (10)
     (pair (λ d t r said.
     let a = load-accepted K d t r _ (facts .ofK) said in
