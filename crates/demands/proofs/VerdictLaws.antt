@@ -18,7 +18,7 @@ use Rattle.cone.specs.declared.Loop.{Loop}
 use Rattle.cone.specs.declared.Loop.the-variants.{At, Free}
 use Rattle.cone.specs.Cone.{LowestOnLoop}
 use Rattle.cone.proofs.Loops.{loop-said-once, loop-free-ranked}
-use Rattle.times.proofs.Lawful.{lawful}
+use Rattle.board.proofs.Lawful.{lawful}
 use Rattle.slow.specs.Slow.{FastestEnds, LastPart, Walked}
 use Rattle.slow.proofs.PathLaws.{last-once, walked-once}
 use Rattle.desk.specs.Held.{Verdict, looped, slow, fine}
