@@ -18,14 +18,7 @@ use Rattle.board.specs.declared.Link.{Link}
 use Rattle.board.specs.declared.Board.{Board}
 use Rattle.board.specs.Board.{noCurve, noLink, curveAt, linkAt, usable, view, Linked, WellFormed}
 use Rattle.board.specs.Path.{Path, one, more, LoopFree}
-<<<<<<< HEAD
 use Rattle.times.proofs.Lawful.{lawful}
-=======
-use Rattle.board.proofs.Lawful.{lawful}
-use Rattle.budget.specs.declared.Budget as value
-use Rattle.budget.specs.Made.{timesIn}
-use Rattle.budget.proofs.BudgetLaws.{allowed-budget}
->>>>>>> db19ffc1d5cbd090a6064ce885230ad39f41be58
 use Rattle.edits.specs.Changes.{Ends, Addable, LinksOnly, LinkAdded, LinkRemoved, CurveChanged, DeadlineChanged}
 use Rattle.orders.specs.declared.Change.{Change}
 use Rattle.orders.specs.declared.Change.the-variants.{Deadline, AddLink, RemoveLink, NewCurve}
