@@ -18,7 +18,7 @@ decide-requires : tie.Need-decide-requires
 decide-requires c κs = search (due-small)
 
 returns : tie.Need-returns
-returns c = crashed-proves _ _ _ _ _ _ _ _ (c .before .before .before .before .before .before .before .before .before .pre) _ _ (c .before .before .before .before .before .before .before .before .slowest-times .ensures) (c .before .before .before .before .before .before .before .no-loads .ensures) _ _ (c .before .before .before .before .crash .ensures) _ _ (c .decide .ensures)
+returns c = crashed-proves _ _ _ _ _ _ _ _ (c .before .before .before .before .before .before .before .before .pre) _ _ (c .before .before .before .before .before .before .before .slowest-times .ensures) (c .before .before .before .before .before .before .no-loads .ensures) _ _ (c .before .before .before .crash .ensures) _ _ (c .decide .ensures)
 
 pub from-slowest-spec : {M : Type 1} → statement M
 from-slowest-spec =
