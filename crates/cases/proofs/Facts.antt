@@ -49,7 +49,11 @@ pub record Facts : Type 0 where
   pub readLong : designOf (fileOf (long 4)) ≡ got (long 4) (length (fileOf (long 4)))
 
 pub facts : Facts
-unfolding best beats fits yields allDelays settled inTime onCurves noLater costOf endsOf endsBy table every arrive greatest share sum tick view usable savingOf ticksOf savingsOf lengthAt savingAt pick designOf headFrom bodyFrom linkedFrom wholeAt linksFrom linkFrom above partsFrom partFrom inPlace versionAt curveFrom runsFrom runFrom falls bare fieldAt rangedAt repeat and-then numberAt groupsFrom shortestEnd fileOf partsBytes linksBytes curveBytes runsBytes inRow encode encodeIn blankCurves blankLinks blankCurve belowOf K D flat long linkedK shorterK curve board
+unfolding best beats fits yields allDelays settled inTime onCurves noLater costOf endsOf endsBy table every arrive greatest share sum tick view
+    usable savingOf ticksOf savingsOf lengthAt savingAt pick designOf headFrom bodyFrom linkedFrom wholeAt linksFrom linkFrom above partsFrom
+    partFrom inPlace versionAt curveFrom runsFrom runFrom falls bare fieldAt rangedAt repeat and-then numberAt groupsFrom shortestEnd fileOf
+    partsBytes linksBytes curveBytes runsBytes inRow encode encodeIn blankCurves blankLinks blankCurve belowOf K D flat long linkedK shorterK
+    curve board
 facts = record {
   ofK = record { read = refl; test = refl };
   ofD = record { read = refl; test = refl };
@@ -76,7 +80,9 @@ pub record Changes : Type 0 where
   pub shorten : changedOf K (plainly (Deadline (record { 0 = 9 }))) ≡ shorterK
 
 pub changes : Changes
-unfolding changedOf withDeadlineOf withLinkOf withoutLinkOf addable hasLinkOf placeOf countBefore insertedOf insertedAt removedOf removedAt filled belowOf sum pick orderOf kindFrom deadlineFrom orders.linkFrom and-then fieldAt rangedAt numberAt groupsFrom shortestEnd K linkedK shorterK curve board
+unfolding changedOf withDeadlineOf withLinkOf withoutLinkOf addable hasLinkOf placeOf countBefore insertedOf insertedAt removedOf removedAt filled
+    belowOf sum pick orderOf kindFrom deadlineFrom orders.linkFrom and-then fieldAt rangedAt numberAt groupsFrom shortestEnd K linkedK shorterK
+    curve board
 changes = record {
   add-reads = refl;
   add = refl;

@@ -6,7 +6,6 @@ use mathlib.Core.List.{List, []}
 use Prim.Native.Nat.{ℕ, suc, _+_, _<_}
 use native.Mathlib.Omega.{arith}
 use lib.ListN.{length}
-use Rattle.refusal.specs.declared.Why.{Why}
 use Rattle.refusal.specs.declared.Why.the-variants.{TooSlow}
 use Rattle.refusal.specs.declared.Answer.{Answer}
 use Rattle.refusal.specs.declared.Answer.the-variants.{Done, Refused}
@@ -18,7 +17,6 @@ use Rattle.board.specs.Path.{LoopFree}
 use Rattle.board.proofs.Lawful.{lawful}
 use Rattle.cone.proofs.Cones.{path-from}
 use Rattle.cone.proofs.Loops.{ranked-loop-free}
-use Rattle.slow.specs.declared.Trail.{Trail}
 use Rattle.slow.specs.declared.ShownPath.{ShownPath}
 use Rattle.slow.specs.Slow.{SlowOf, kept, exceeded, shown, inTime}
 use Rattle.slow.specs.Walk.{trailOf}
@@ -39,7 +37,7 @@ use Rattle.desk.specs.Held.{Holding, Verdict}
 use Rattle.desk.specs.Held as verdict
 use Rattle.desk.specs.Load.{noTally, loadRefused, LoadJudged, LoadParsed, LoadSaid}
 use Rattle.desk.specs.Load as load
-use Rattle.desk.specs.Order.{changedOf, placeTried, triedOf, oneTaken, refusedTally, orderRefused, OrderJudged, OrderTried, OrderParsed, OrderSaid}
+use Rattle.desk.specs.Order.{changedOf, placeTried, triedOf, oneTaken, orderRefused, OrderJudged, OrderTried, OrderParsed, OrderSaid}
 use Rattle.desk.specs.Order as order
 use Rattle.demands.proofs.Tried.{never, passed-tried}
 use Rattle.demands.proofs.VerdictLaws.{verdict-done}

@@ -1,4 +1,6 @@
--- The one statement: of every row of the table, what the contracts promise gives the row's answers.
+-- The one statement, `all-promised`: of every row of the table, what the contracts promise gives the row's answers.
+-- The idea: from a load on, the desk holds a board that was worked out (`At`, `Known`), so its budget is the one worked out, and each answer is
+-- computed. The subtle point: that no other budget is held is a computed test of every budget of the board (`Best.best`).
 -- Assumes nothing.
 use mathlib.Core.Path.{_≡_, refl, ap}
 use mathlib.Core.List.{List, [], _∷_}
@@ -37,7 +39,7 @@ use Rattle.desk.specs.declared.Tally.{Tally}
 use Rattle.desk.specs.declared.Desk.{Desk}
 use Rattle.desk.specs.declared.Ordered.{Ordered}
 use Rattle.desk.specs.Order.{oneTaken, orderRefused, OrderSaid}
-use Rattle.cases.specs.Boards.{curve, board, K, fileK, D, flat, long}
+use Rattle.cases.specs.Boards.{curve, board, K, fileK, D, fileD, flat, fileFlat, long, fileLong}
 use Rattle.cases.specs.Rows as row
 use Rattle.cases.specs.Promised.{padded, Shows, KinAre, StepsPromised, Promised, All}
 use Rattle.cases.specs.Table.{twelve}
@@ -128,9 +130,12 @@ held-row b delays k is d t r said =
     let a = load-accepted b d t r delays k said in
     pair (a .0) (pair (holds-step (a .1) k is) tt)
 
--- "Proved together": each `refl` is computed, and none of the table's numbers stands here
+-- "Proved together". Each `refl` is computed, and no answer of the table stands here a second time.
 pub all-promised : All Promised twelve
-unfolding All twelve Promised StepsPromised padded valueOf budgetOf delaysOf powersOf totalOf firsts timesBy fits settled inTime onCurves endsOf endsBy table every arrive greatest share sum tick view usable powerAtOf powerOf slowestOf savingOf ticksOf lengthAt savingAt pick fileOf partsBytes linksBytes curveBytes runsBytes inRow encode encodeIn numberAt groupsFrom shortestEnd ones onesIn K fileK D flat long linkedK shorterK board curve
+unfolding All twelve Promised StepsPromised padded valueOf budgetOf delaysOf powersOf totalOf firsts timesBy fits settled inTime onCurves endsOf
+    endsBy table every arrive greatest share sum tick view usable powerAtOf powerOf slowestOf savingOf ticksOf lengthAt savingAt pick fileOf
+    partsBytes linksBytes curveBytes runsBytes inRow encode encodeIn numberAt groupsFrom shortestEnd ones onesIn K fileK D fileD flat fileFlat
+    long fileLong linkedK shorterK board curve
 all-promised =
     -- (1)
     pair (λ d t r said.
@@ -149,7 +154,7 @@ all-promised =
     (pair (holds-step (a .1) (facts .ofK) (shows-is refl refl refl))
     (pair (also-step (a .1) (facts .ofK) (another-is K _ (facts .ofK) _ refl _ _ (shows-is refl refl refl) refl refl 1 refl)) tt))))
     -- (3)
-    (pair (held-row (D 5) _ (facts .ofD) (shows-is refl refl refl))
+    (pair (pair (refl, facts .ofD .read) (held-row (D 5) _ (facts .ofD) (shows-is refl refl refl)))
     -- (4)
     (pair (λ d t r said.
     let a = load-accepted (D 6) d t r _ (facts .ofD6) said in
@@ -157,9 +162,9 @@ all-promised =
     (pair (holds-step (a .1) (facts .ofD6) (shows-is refl refl refl))
     (pair (also-step (a .1) (facts .ofD6) (another-is (D 6) _ (facts .ofD6) _ refl _ _ (shows-is refl refl refl) refl refl 0 refl)) tt)))
     -- (5)
-    (pair (held-row flat _ (facts .ofFlat) (shows-is refl refl refl))
+    (pair (pair (refl, facts .ofFlat .read) (held-row flat _ (facts .ofFlat) (shows-is refl refl refl)))
     -- (6)
-    (pair (held-row (long 4095) _ (facts .ofLong) (shows-is refl refl refl))
+    (pair (pair (refl, facts .ofLong .read) (held-row (long 4095) _ (facts .ofLong) (shows-is refl refl refl)))
     -- (7)
     (pair (pair (held-row (long 5) _ (facts .ofLong5) (shows-is refl refl refl)) (λ d t r said.
     refused-load r _ _ d t (load-refused (long 4) d t r (facts .readLong) _ _ slow-long said)))

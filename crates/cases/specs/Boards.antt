@@ -67,10 +67,26 @@ D saving =
     board 3 (link 0 1 ∷ link 0 2 ∷ [])
     (curve 1 10 (run 1 saving ∷ []) ∷ curve 1 10 (run 1 3 ∷ []) ∷ curve 1 10 (run 1 3 ∷ []) ∷ [])
 
+-- D's file, as 01 says that a file is written
+unfoldable pub fileD : List ℕ
+fileD =
+    1 ∷ 3 ∷ 3 ∷
+    1 ∷ 10 ∷ 1 ∷ 1 ∷ 5 ∷
+    1 ∷ 10 ∷ 1 ∷ 1 ∷ 3 ∷
+    1 ∷ 10 ∷ 1 ∷ 1 ∷ 3 ∷
+    2 ∷ 0 ∷ 1 ∷ 0 ∷ 2 ∷ []
+
 -- "One part, fastest 1, power 0, no runs, deadline 1"
 unfoldable pub flat : Board
 flat = board 1 [] (curve 1 0 [] ∷ [])
 
+unfoldable pub fileFlat : List ℕ
+fileFlat = 1 ∷ 1 ∷ 1 ∷ 1 ∷ 0 ∷ 0 ∷ 0 ∷ []
+
 -- "One part, fastest 5, power 255, a run of 255 at 1", and a deadline
 unfoldable pub long : ℕ → Board
 long deadline = board deadline [] (curve 5 255 (run 255 1 ∷ []) ∷ [])
+
+-- with deadline 4,095
+unfoldable pub fileLong : List ℕ
+fileLong = 1 ∷ 255 ∷ 31 ∷ 1 ∷ 5 ∷ 255 ∷ 1 ∷ 1 ∷ 255 ∷ 1 ∷ 1 ∷ 0 ∷ []

@@ -1,8 +1,9 @@
--- 01, Boards to try: "Proved together: (1) .. (12)", in its order and its words.
+-- 01, Boards to try: "Proved together: (1) .. (12)", in its order and its words. Each board stands beside its file where it first comes, so that
+-- no number of a board can change by itself.
 -- Assumes nothing.
 use mathlib.Core.List.{List, [], _∷_}
 use Prim.Native.Nat.{ℕ}
-use Rattle.cases.specs.Boards.{K, fileK, D, flat, long}
+use Rattle.cases.specs.Boards.{K, fileK, D, fileD, flat, fileFlat, long, fileLong}
 use Rattle.cases.specs.Rows.{
   Case,
   holds,
@@ -42,13 +43,13 @@ twelve =
     (file K fileK)
     (board K (holds (4 ∷ 3 ∷ 3 ∷ 6 ∷ []) (4 ∷ 7 ∷ 10 ∷ 10 ∷ []) 208 ∷ also (4 ∷ 5 ∷ 1 ∷ 6 ∷ []) (4 ∷ 9 ∷ 10 ∷ 10 ∷ []) 208 ∷ []))
     -- (3) "D: 1, 2, 2, total 24."
-    ∷ board (D 5) (holds (1 ∷ 2 ∷ 2 ∷ []) (1 ∷ 3 ∷ 3 ∷ []) 24 ∷ [])
+    ∷ both (file (D 5) fileD) (board (D 5) (holds (1 ∷ 2 ∷ 2 ∷ []) (1 ∷ 3 ∷ 3 ∷ []) 24 ∷ []))
     -- (4) "D with saving 6 at part 0: 1, 2, 2 again, total 24, though 2, 1, 1 costs 24."
     ∷ board (D 6) (holds (1 ∷ 2 ∷ 2 ∷ []) (1 ∷ 3 ∷ 3 ∷ []) 24 ∷ also (2 ∷ 1 ∷ 1 ∷ []) (2 ∷ 3 ∷ 3 ∷ []) 24 ∷ [])
     -- (5) "One part, fastest 1, power 0, no runs, deadline 1: delay 1, total 0."
-    ∷ board flat (holds (1 ∷ []) (1 ∷ []) 0 ∷ [])
+    ∷ both (file flat fileFlat) (board flat (holds (1 ∷ []) (1 ∷ []) 0 ∷ []))
     -- (6) "One part, fastest 5, power 255, a run of 255 at 1, deadline 4,095: delay 260, total 0."
-    ∷ board (long 4095) (holds (260 ∷ []) (260 ∷ []) 0 ∷ [])
+    ∷ both (file (long 4095) fileLong) (board (long 4095) (holds (260 ∷ []) (260 ∷ []) 0 ∷ []))
     -- (7) "The same with deadline 5: delay 5, total 255; with 4: refusal 10, place 5, path 0."
     ∷ both (board (long 5) (holds (5 ∷ []) (5 ∷ []) 255 ∷ [])) (board-not (long 4) 10 5 (0 ∷ []))
     -- (8) "K with link 3 to 1: delays 2, 3, 1, 4, total 280."
