@@ -20,56 +20,40 @@ use Rattle.desk.specs.Load.{noTally, LoadJudged, LoadParsed, LoadSaid}
 use Rattle.desk.specs.Load as load
 use Rattle.demands.proofs.VerdictLaws.{verdict-done}
 use Rattle.desk.proofs.Tried.{never}
-use Rattle.demands.proofs.Steps.{Judges, kept-judges}
-
--- refusals 1 to 8 do not apply: the file describes a board
-pub record Describes (s : List ℕ) (b : Board) : Type 0 where
-  pub size : ℕ
-  pub read : designOf s ≡ got b size
-
--- an accepted load holds that board
-pub record Accepted (b : Board) (r : Loaded) : Type 0 where
-  pub done : r .answer ≡ Done
-  pub board : r .desk .board ≡ b
-  pub holding : Holding (r .desk)
-  pub tally : r .tally ≡ noTally
+use Rattle.demands.specs.Boards.{Plannable}
+use Rattle.demands.specs.Loads.{Describes, Accepted, Came}
+use Rattle.demands.proofs.Steps.{kept-plannable}
 
 module _ (d : Desk) (t : Tally) (r : Loaded) where
   judged-accepted : (b : Board) → r .answer ≡ Done → LoadJudged b d t r → Accepted b r
   judged-accepted b done (load.refused v is) = never (sym (ap (λ (x : Loaded). x .answer) is) ∙ done)
   judged-accepted b done (load.accepted v a p bo h ta) = record { done = a; board = bo; holding = h; tally = ta }
 
-  judged-done : (b : Board) → Judges b → LoadJudged b d t r → r .answer ≡ Done
+  judged-done : (b : Board) → Plannable b → LoadJudged b d t r → r .answer ≡ Done
   judged-done b ok (load.refused v is) = never (verdict-done b (ok .formed) (ok .free) (ok .budget) v)
   judged-done b ok (load.accepted v a p bo h ta) = a
 
   -- where no refusal applies, the load is accepted;
-  pub load-accepts : (s : List ℕ) (b : Board) → Describes s b → Judges b → LoadSaid d s t r → Accepted b r
+  pub load-accepts : (s : List ℕ) (b : Board) → Describes s b → Plannable b → LoadSaid d s t r → Accepted b r
   load-accepts s b file ok said =
       let j : LoadJudged b d t r = subst (λ (p : Parse Board). LoadParsed p d t r) (file .read) (said .parsed) in
       judged-accepted b (judged-done b ok j) j
 
   -- where it is accepted, none applied, and the board is the file's
-  pub record Came (s : List ℕ) : Type 0 where
-    pub of : Board
-    pub file : Describes s of
-    pub judges : Judges of
-    pub so : Accepted of r
-
-  parsed-came : (s : List ℕ) (p : Parse Board) → designOf s ≡ p → LoadParsed p d t r → r .answer ≡ Done → Came s
+  parsed-came : (s : List ℕ) (p : Parse Board) → designOf s ≡ p → LoadParsed p d t r → r .answer ≡ Done → Came s r
   parsed-came s (stop why place) e is done = never (sym (ap (λ (x : Loaded). x .answer) is) ∙ done)
   parsed-came s (got b next) e j done =
       let so = judged-accepted b done j in
       record {
         of = b;
         file = record { size = next; read = e };
-        judges = rw (so .board) at (kept-judges (r .desk .board) (r .desk .budget) (so .holding .kept));
+        plannable = rw (so .board) at (kept-plannable (r .desk .board) (r .desk .budget) (so .holding .kept));
         so = so;
       }
 
-  pub load-accepted : (s : List ℕ) → LoadSaid d s t r → r .answer ≡ Done → Came s
+  pub load-accepted : (s : List ℕ) → LoadSaid d s t r → r .answer ≡ Done → Came s r
   load-accepted s said done = parsed-came s (designOf s) refl (said .parsed) done
 
   -- every board without a loop that has any budget at all is loaded from the file that is written of it
-  pub written-loads : (b : Board) → Judges b → LoadSaid d (fileOf b) t r → Accepted b r
+  pub written-loads : (b : Board) → Plannable b → LoadSaid d (fileOf b) t r → Accepted b r
   written-loads b ok said = load-accepts (fileOf b) b (record { size = length (fileOf b); read = written-read b (ok .formed) }) ok said

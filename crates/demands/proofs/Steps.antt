@@ -23,21 +23,15 @@ use Rattle.desk.specs.declared.Ordered.{Ordered}
 use Rattle.desk.specs.Held.{Kept, Holding}
 use Rattle.desk.specs.Order.{changedOf, triedOf, oneTaken, orderRefused, OrderJudged, OrderTried, OrderParsed, OrderSaid}
 use Rattle.desk.specs.Order as order
-use Rattle.demands.specs.Orders.{Reads, Makes, ChangesOnly}
+use Rattle.demands.specs.Boards.{Plannable}
+use Rattle.demands.specs.Orders.{Reads, Makes, Allows, ChangesOnly}
 use Rattle.demands.proofs.VerdictLaws.{verdict-done}
 use Rattle.desk.proofs.Tried.{never, Passed, tried-passed, passed-tried, tried-fits, Fits}
 use Rattle.demands.proofs.Tried.{changed-only}
 
--- a board that is judged and refused for nothing
-pub record Judges (b : Board) : Type 0 where
-  pub formed : WellFormed b
-  pub free : LoopFree b
-  pub times : Times
-  pub budget : Budget (view b) (usable b) times
-
 -- a board that is held with its budget
-pub kept-judges : (b : Board) (r : value.Budget) → Kept b r → Judges b
-kept-judges b r kept = record {
+pub kept-plannable : (b : Board) (r : value.Budget) → Kept b r → Plannable b
+kept-plannable b r kept = record {
   formed = kept .formed;
   free = kept .free;
   times = timesIn b r;
@@ -69,12 +63,12 @@ module _ (d : Desk) (t : Tally) (o : Order) (r : Ordered) where
     pub makes-stepped : Makes d s t r → Stepped d t o r
     makes-stepped m = tried-stepped (triedOf d t o) (reads .took) refl (m .done) (tried (m .said))
 
-    judged-done : (b : Board) (took : ℕ) → Judges b → OrderJudged b d t took r → r .answer ≡ Done
+    judged-done : (b : Board) (took : ℕ) → Plannable b → OrderJudged b d t took r → r .answer ≡ Done
     judged-done b took ok (order.refused v is) = never (verdict-done b (ok .formed) (ok .free) (ok .budget) v)
     judged-done b took ok (order.made v a k p bo h ta) = a
 
     -- an order is made where nothing stands against it
-    pub said-makes : Passed d t (o .change) → Judges (changedOf (d .board) o) → OrderSaid d s t r → Makes d s t r
+    pub said-makes : Passed d t (o .change) → Plannable (changedOf (d .board) o) → OrderSaid d s t r → Makes d s t r
     said-makes passed ok said =
         let j : OrderTried Done d t o (reads .took) r = subst (λ (a : Answer). OrderTried a d t o (reads .took) r) (passed-tried d t o passed) (tried said) in
         record { said = said; done = judged-done (changedOf (d .board) o) (reads .took) ok j }
@@ -87,18 +81,13 @@ module _ (d : Desk) (t : Tally) (o : Order) (r : Ordered) where
 
 -- demand 3: "An order is made exactly when no listed refusal applies, and changes its one place and nothing else."
 module _ (d : Desk) (h : Holding d) (t : Tally) (s : List ℕ) (o : Order) (reads : Reads s o) (r : Ordered) (said : OrderSaid d s t r) where
-  -- none of 18, 17, 7, 13, 14, 15, 9 and 10 applies; 11 does not, since a board is held
-  pub record Allows : Type 0 where
-    pub passed : Passed d t (o .change)
-    pub judges : Judges (changedOf (d .board) o)
+  pub order-made : Allows d t o → Makes d s t r
+  order-made may = said-makes d t o r s reads (tried-passed d t o (may .tried)) (may .plannable) said
 
-  pub order-made : Allows → Makes d s t r
-  order-made may = said-makes d t o r s reads (may .passed) (may .judges) said
-
-  pub made-allows : r .answer ≡ Done → Allows
+  pub made-allows : r .answer ≡ Done → Allows d t o
   made-allows done =
       let so = makes-stepped d t o r s reads (record { said = said; done = done }) in
-      record { passed = so .passed; judges = rw (so .board) at (kept-judges (r .desk .board) (r .desk .budget) (so .holding .kept)) }
+      record { tried = passed-tried d t o (so .passed); plannable = rw (so .board) at (kept-plannable (r .desk .board) (r .desk .budget) (so .holding .kept)) }
 
   pub made-changes-only : r .answer ≡ Done → ChangesOnly (d .board) (r .desk .board) o
   made-changes-only done = stepped-only d t o r h (makes-stepped d t o r s reads (record { said = said; done = done }))

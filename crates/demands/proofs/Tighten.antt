@@ -31,10 +31,11 @@ use Rattle.desk.specs.declared.Ordered.{Ordered}
 use Rattle.desk.specs.Held.{Holding}
 use Rattle.desk.specs.Order.{changedOf, placeTried, oneTaken, OrderSaid}
 use Rattle.demands.specs.Same.{SameEnd}
-use Rattle.demands.specs.Orders.{Place, the-link, the-curve, placeOf, Apart, changeSeen, ChangesOnly, changeTightens, Tightens, Reads, Makes}
+use Rattle.demands.specs.Boards.{Plannable}
+use Rattle.demands.specs.Orders.{OtherWay, Place, the-link, the-curve, placeOf, Apart, changeSeen, ChangesOnly, changeTightens, Tightens, Reads, Makes}
 use Rattle.desk.proofs.Tried.{Passed, Fits, tried-fits, fits-tried, changed-well}
 use Rattle.demands.proofs.Tried.{changed-only}
-use Rattle.demands.proofs.Steps.{Judges, kept-judges, Stepped, makes-stepped, said-makes}
+use Rattle.demands.proofs.Steps.{kept-plannable, Stepped, makes-stepped, said-makes}
 use Rattle.demands.proofs.Commute.{boards-commute, fits-next, board-next, steps-commute}
 
 -- ---- a board that is tighter than another
@@ -106,8 +107,8 @@ module _ (b b′ : Board) (tight : TighterBoard b b′) where
   }
 
   -- what the tighter board is not refused for, the other is not
-  pub tighter-judges : WellFormed b → Judges b′ → Judges b
-  tighter-judges w ok =
+  pub tighter-plannable : WellFormed b → Plannable b′ → Plannable b
+  tighter-plannable w ok =
       let so = tighter-possible tighter-view (lawful b w) (lawful b′ (ok .formed)) (tight .usable-le) (ok .times) (ok .budget) in
       record { formed = w; free = free-too (ok .free); times = so .0; budget = so .1 }
 
@@ -176,12 +177,6 @@ module _ (b b₁ b₂ : Board) (k k′ : Curve) where
   fits-after (NewCurve part) c′ ne f s h s′ h′ g = rw (seen-tighter b b₂ k′ c′ s′ h′ .parts) f
 
 -- ---- desks
--- the other way is accepted too, and ends alike
-pub record OtherWay (r₁₂ r₂ r₂₁ : Ordered) : Type 0 where
-  pub first : r₂ .answer ≡ Done
-  pub second : r₂₁ .answer ≡ Done
-  pub end : SameEnd r₁₂ r₂₁
-
 module _ (d : Desk) (holds : Holding d) (t : Tally) (o o′ : Order) (orderly′ : Orderly o′) (ne : Apart o o′) (tight : Tightens (d .board) o)
     (tight′ : Tightens (d .board) o′) (r₁ r₁₂ : Ordered) (a : Stepped d t o r₁) (a₂ : Stepped (r₁ .desk) (r₁ .tally) o′ r₁₂)
   where
@@ -219,16 +214,16 @@ module _ (d : Desk) (holds : Holding d) (t : Tally) (o o′ : Order) (orderly′
     next′ = fits-after b b₁ b₂ (o .curve) (o′ .curve) (o .change) (o′ .change) ne fits seen tight seen′ tight′ next
 
     -- the board at the end, by the other way
-    ends-judges : Judges (changedOf b₂ o)
-    ends-judges =
+    ends-plannable : Plannable (changedOf b₂ o)
+    ends-plannable =
         let same = boards-commute b w o o′ ne fits next fits′ next′ in
-        rw (board-next d t o o′ r₁ r₁₂ a a₂ ∙ same) at (kept-judges (r₁₂ .desk .board) (r₁₂ .desk .budget) (a₂ .holding .kept))
+        rw (board-next d t o o′ r₁ r₁₂ a a₂ ∙ same) at (kept-plannable (r₁₂ .desk .board) (r₁₂ .desk .budget) (a₂ .holding .kept))
 
     -- the board in between
-    between-judges : Judges b₂
-    between-judges =
+    between-plannable : Plannable b₂
+    between-plannable =
         let still = tightens-after b b₂ (o .curve) (o′ .curve) (o .change) (o′ .change) ne seen′ tight in
-        tighter-judges b₂ (changedOf b₂ o) (seen-tighter b₂ (changedOf b₂ o) (o .curve) (o .change) (changed-only b₂ w₂ o next′) still) w₂ ends-judges
+        tighter-plannable b₂ (changedOf b₂ o) (seen-tighter b₂ (changedOf b₂ o) (o .curve) (o .change) (changed-only b₂ w₂ o next′) still) w₂ ends-plannable
 
     -- the tally has room for two
     room : t .taken + 1 + t .refused < 65535
@@ -239,7 +234,7 @@ module _ (d : Desk) (holds : Holding d) (t : Tally) (o o′ : Order) (orderly′
 
     module _ (s s′ : List ℕ) (reads : Reads s o) (reads′ : Reads s′ o′) (r₂ r₂₁ : Ordered) (said : OrderSaid d s′ t r₂) (said₂ : OrderSaid (r₂ .desk) s (r₂ .tally) r₂₁) where
       first-made : Makes d s′ t r₂
-      first-made = said-makes d t o′ r₂ s′ reads′ first-passed between-judges said
+      first-made = said-makes d t o′ r₂ s′ reads′ first-passed between-plannable said
 
       first-stepped : Stepped d t o′ r₂
       first-stepped = makes-stepped d t o′ r₂ s′ reads′ first-made
@@ -253,7 +248,7 @@ module _ (d : Desk) (holds : Holding d) (t : Tally) (o o′ : Order) (orderly′
 
       second-made : Makes (r₂ .desk) s (r₂ .tally) r₂₁
       second-made =
-          said-makes (r₂ .desk) (r₂ .tally) o r₂₁ s reads second-passed (subst (λ (c : Board). Judges (changedOf c o)) (sym (first-stepped .board)) ends-judges) said₂
+          said-makes (r₂ .desk) (r₂ .tally) o r₂₁ s reads second-passed (subst (λ (c : Board). Plannable (changedOf c o)) (sym (first-stepped .board)) ends-plannable) said₂
 
       pub tightening-steps : OtherWay r₁₂ r₂ r₂₁
       tightening-steps = record {

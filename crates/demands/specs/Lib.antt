@@ -1,3 +1,5 @@
 pub mod Same
+pub mod Boards
+pub mod Loads
 pub mod Orders
 pub mod Reached

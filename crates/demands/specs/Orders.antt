@@ -18,7 +18,9 @@ use Rattle.orders.specs.Order.{orderOf}
 use Rattle.desk.specs.declared.Tally.{Tally}
 use Rattle.desk.specs.declared.Desk.{Desk}
 use Rattle.desk.specs.declared.Ordered.{Ordered}
-use Rattle.desk.specs.Order.{OrderSaid}
+use Rattle.desk.specs.Order.{changedOf, triedOf, OrderSaid}
+use Rattle.demands.specs.Same.{SameEnd}
+use Rattle.demands.specs.Boards.{Plannable}
 
 -- "Places are the deadline, each link by its ends, each part's curve."
 pub data Place : Type 0 where
@@ -65,3 +67,14 @@ pub record Reads (s : List ℕ) (o : Order) : Type 0 where
 pub record Makes (d : Desk) (s : List ℕ) (t : Tally) (r : Ordered) : Type 0 where
   pub said : OrderSaid d s t r
   pub done : r .answer ≡ Done
+
+-- "no listed refusal applies": none of 11, 18, 17, 7, 13, 14 and 15, and of the board as it would be neither 9 nor 10
+pub record Allows (d : Desk) (t : Tally) (o : Order) : Type 0 where
+  pub tried : triedOf d t o ≡ Done
+  pub plannable : Plannable (changedOf (d .board) o)
+
+-- the other way is accepted too, and ends alike
+pub record OtherWay (r₁₂ r₂ r₂₁ : Ordered) : Type 0 where
+  pub first : r₂ .answer ≡ Done
+  pub second : r₂₁ .answer ≡ Done
+  pub end : SameEnd r₁₂ r₂₁

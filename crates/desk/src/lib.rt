@@ -67,6 +67,7 @@ struct Settled {
     desk: Desk,
 }
 
+// The path is empty except at refusal 10.
 fn no_path() -> Trail
     ensures { λ r. ⌜ r ≡ trailOf [] ⌝ }
 {
@@ -231,6 +232,7 @@ fn holds_board(d: Desk) -> bool
     board::well_formed(b)
 }
 
+// A refusal with its place.
 fn no(why: Why, place: usize) -> Answer
     ensures { λ r. ⌜ r ≡ Refused why place ⌝ }
 {
