@@ -21,7 +21,7 @@ use Rattle.edits.proofs.LinkEdits.{with-link-well, without-link-well}
 use Rattle.orders.specs.declared.Change.{Change}
 use Rattle.orders.specs.declared.Change.the-variants.{Deadline, AddLink, RemoveLink, NewCurve}
 use Rattle.orders.specs.declared.Order.{Order}
-use Rattle.orders.specs.Order.{Ranged, Orderly}
+use Rattle.orders.specs.Order.{InRange, Orderly}
 use Rattle.desk.specs.declared.Tally.{Tally}
 use Rattle.desk.specs.declared.Desk.{Desk}
 use Rattle.desk.specs.Order.{changeMade, changedOf, placeTried, triedOf}
@@ -103,7 +103,7 @@ module _ (d : Desk) (t : Tally) (o : Order) where
 
 -- ---- the board as it then is stays well formed
 module _ (b : Board) (w : WellFormed b) where
-  made-well : (c : Change) (k : Curve) → Ranged c k → Fits b c → WellFormed (changeMade b c k)
+  made-well : (c : Change) (k : Curve) → InRange c k → Fits b c → WellFormed (changeMade b c k)
   made-well (Deadline d) k s f = with-deadline-well b w d (s .0) (s .1)
   made-well (AddLink from to) k s f = with-link-well b w from to f
   made-well (RemoveLink from to) k s f = without-link-well b w from to f
