@@ -18,7 +18,7 @@ use Rattle.board.specs.declared.Link.{Link}
 use Rattle.board.specs.declared.Board.{Board}
 use Rattle.board.specs.Board.{noCurve, noLink, curveAt, linkAt, usable, view, Linked, WellFormed}
 use Rattle.board.specs.Path.{Path, one, more, LoopFree}
-use Rattle.times.proofs.Lawful.{lawful}
+use Rattle.board.proofs.Lawful.{lawful}
 use Rattle.edits.specs.Changes.{Ends, Addable, LinksOnly, LinkAdded, LinkRemoved, CurveChanged, DeadlineChanged}
 use Rattle.orders.specs.declared.Change.{Change}
 use Rattle.orders.specs.declared.Change.the-variants.{Deadline, AddLink, RemoveLink, NewCurve}
