@@ -20,7 +20,7 @@ use Rattle.edits.specs.Edits.{countBefore, placeOf, hasLinkOf, filled, inserted
 use Rattle.fields.specs.Parse.{got, and-then, repeat, rangedAt, fieldAt}
 use Rattle.fields.specs.Writing.{inRow}
 use Rattle.fields.specs.CurveFile.{bare, falls, runFrom, runsFrom, curveFrom, runsBytes, curveBytes}
-use Rattle.design.specs.Design.{versionAt, inPlace, partFrom, partsFrom, above, linkFrom, linksFrom, wholeAt, linkedFrom, bodyFrom, headFrom, designOf, partsBytes, linksBytes, fileOf}
+use Rattle.design.specs.Design.{versionAt, inPlace, partFrom, partsFrom, above, linkFrom, linksFrom, wholeAt, linkedFrom, bodyFrom, headFrom, designOf, partsBytes, linksBytes, linkedBytes, bodyBytes, headBytes, fileOf}
 use Rattle.orders.specs.declared.Change.the-variants.{Deadline, AddLink, RemoveLink}
 use Rattle.orders.specs.Order.{plainly, deadlineFrom, kindFrom, orderOf}
 use Rattle.orders.specs.Order as orders
@@ -52,7 +52,7 @@ pub facts : Facts
 unfolding best beats fits yields allDelays settled inTime onCurves noLater costOf endsOf endsBy table every arrive greatest share sum tick view
     usable savingOf ticksOf savingsOf lengthAt savingAt pick designOf headFrom bodyFrom linkedFrom wholeAt linksFrom linkFrom above partsFrom
     partFrom inPlace versionAt curveFrom runsFrom runFrom falls bare fieldAt rangedAt repeat and-then numberAt groupsFrom shortestEnd fileOf
-    partsBytes linksBytes curveBytes runsBytes inRow encode encodeIn blankCurves blankLinks blankCurve belowOf K D flat long linkedK shorterK
+    partsBytes linksBytes linkedBytes bodyBytes headBytes curveBytes runsBytes inRow encode encodeIn blankCurves blankLinks blankCurve belowOf K D flat long linkedK shorterK
     curve board
 facts = record {
   ofK = record { read = refl; test = refl };

@@ -39,7 +39,7 @@ use Rattle.desk.specs.Load.{noTally, loadRefused, LoadJudged, LoadParsed, LoadS
 use Rattle.desk.specs.Load as load
 use Rattle.desk.specs.Order.{changedOf, placeTried, triedOf, oneTaken, orderRefused, OrderJudged, OrderTried, OrderParsed, OrderSaid}
 use Rattle.desk.specs.Order as order
-use Rattle.demands.proofs.Tried.{never, passed-tried}
+use Rattle.desk.proofs.Tried.{never, passed-tried}
 use Rattle.demands.proofs.VerdictLaws.{verdict-done}
 use Rattle.cases.proofs.Best.{timesBy, best, best-budget, best-ranked, best-held}
 
@@ -110,7 +110,7 @@ at-budget b delays k {d = d} a =
 -- ---- loads
 module _ (b : Board) (d : Desk) (t : Tally) (r : Loaded) where
   load-judged : designOf (fileOf b) ≡ got b (length (fileOf b)) → LoadSaid d (fileOf b) t r → LoadJudged b d t r
-  load-judged read said = subst (λ (p : Parse Board). LoadParsed p d t r) read said
+  load-judged read said = subst (λ (p : Parse Board). LoadParsed p d t r) read (said .parsed)
 
   module _ (delays : List ℕ) (k : Known b delays) where
     accepted : LoadJudged b d t r → (r .answer ≡ Done) × At b noTally (r .desk) (r .tally)
@@ -148,7 +148,7 @@ module _ (b : Board) (n : Tally) (d : Desk) (t : Tally) (at : At b n d t) (room 
             room = rw (at .tally) room;
             place = ap (λ (x : Board). placeTried x (o .change)) (at .board) ∙ fits;
           }) in
-          let parsed : OrderTried (triedOf d t o) d t o took r = subst (λ (p : Parse Order). OrderParsed p d t r) reads said in
+          let parsed : OrderTried (triedOf d t o) d t o took r = subst (λ (p : Parse Order). OrderParsed p d t r) reads (said .parsed) in
           let judged : OrderJudged (changedOf (d .board) o) d t took r = subst (λ (a : Answer). OrderTried a d t o took r) tried parsed in
           subst (λ (x : Board). OrderJudged x d t took r) (ap (λ (x : Board). changedOf x o) (at .board) ∙ changed) judged
 

@@ -31,7 +31,7 @@ use Rattle.slow.proofs.ShownCases.{boardK, board1, case-9, case-7}
 use Rattle.budget.specs.Made.{delaysOf, powersOf, totalOf, budgetOf, valueOf}
 use Rattle.fields.specs.Writing.{inRow}
 use Rattle.fields.specs.CurveFile.{runsBytes, curveBytes}
-use Rattle.design.specs.Design.{partsBytes, linksBytes, fileOf}
+use Rattle.design.specs.Design.{partsBytes, linksBytes, linkedBytes, bodyBytes, headBytes, fileOf}
 use Rattle.design.proofs.DesignLaws.{design-well-formed}
 use Rattle.orders.specs.declared.Change.the-variants.{Deadline, AddLink, RemoveLink}
 use Rattle.orders.specs.Order.{plainly}
@@ -134,7 +134,7 @@ held-row b delays k is d t r said =
 pub all-promised : All Promised twelve
 unfolding All twelve Promised StepsPromised padded valueOf budgetOf delaysOf powersOf totalOf firsts timesBy fits settled inTime onCurves endsOf
     endsBy table every arrive greatest share sum tick view usable powerAtOf powerOf slowestOf savingOf ticksOf lengthAt savingAt pick fileOf
-    partsBytes linksBytes curveBytes runsBytes inRow encode encodeIn numberAt groupsFrom shortestEnd ones onesIn K fileK D fileD flat fileFlat
+    partsBytes linksBytes linkedBytes bodyBytes headBytes curveBytes runsBytes inRow encode encodeIn numberAt groupsFrom shortestEnd ones onesIn K fileK D fileD flat fileFlat
     long fileLong linkedK shorterK board curve
 all-promised =
     -- (1)
