@@ -27,7 +27,8 @@
 //! `trials sessions BUNDLE`: records by twos, design file and orders.
 //!   session I, then the lines of `inspect`
 //! `trials make KIND COUNT SEED OUT`: writes a bundle of COUNT cases; KIND is
-//!   files, orders, boards or sessions (two records for each session).
+//!   files, orders, boards or sessions (two records for each session); loads
+//!   and designs are files and boards as sessions without orders.
 //! `trials unpack BUNDLE NUMBER OUT`: one record by itself, to look at it.
 //! `trials compare LEFT RIGHT`: exit 0 where two outputs are the same; else 1
 //!   and the first lines that differ.
@@ -113,9 +114,15 @@ fn make_bundle(kind: &str, count: usize, seed: u64, out: &str) -> Result<ExitCod
         "orders" => make::orders(count, rng),
         "boards" => make::boards(count, rng),
         "sessions" => make::sessions(count, rng),
-        _ => return Err("a kind is files, orders, boards or sessions".to_string()),
+        "loads" => without_orders(make::files(count, rng)),
+        "designs" => without_orders(make::boards(count, rng)),
+        _ => return Err("a kind is files, orders, boards, sessions, loads or designs".to_string()),
     };
     write(out, &bundle::pack(&records))
+}
+
+fn without_orders(files: Vec<Vec<u8>>) -> Vec<Vec<u8>> {
+    files.into_iter().flat_map(|file| [file, Vec::new()]).collect()
 }
 
 fn unpack(path: &str, record: usize, out: &str) -> Result<ExitCode, String> {
