@@ -28,7 +28,8 @@
 //!   session I, then the lines of `inspect`
 //! `trials make KIND COUNT SEED OUT`: writes a bundle of COUNT cases; KIND is
 //!   files, orders, boards or sessions (two records for each session); loads
-//!   and designs are files and boards as sessions without orders.
+//!   and designs are files and boards as sessions without orders, and steps
+//!   are sessions cut after each of their orders, to see every state between.
 //! `trials unpack BUNDLE NUMBER OUT`: one record by itself, to look at it.
 //! `trials compare LEFT RIGHT`: exit 0 where two outputs are the same; else 1
 //!   and the first lines that differ.
@@ -37,6 +38,7 @@ use std::fs::{self, File};
 use std::io::{Read, Write};
 use std::path::Path;
 use std::process::ExitCode;
+use trials::file::read_order;
 use trials::rng::Rng;
 use trials::{bundle, make, report};
 
@@ -116,13 +118,26 @@ fn make_bundle(kind: &str, count: usize, seed: u64, out: &str) -> Result<ExitCod
         "sessions" => make::sessions(count, rng),
         "loads" => without_orders(make::files(count, rng)),
         "designs" => without_orders(make::boards(count, rng)),
-        _ => return Err("a kind is files, orders, boards, sessions, loads or designs".to_string()),
+        "steps" => cut_after_each(&make::sessions(count, rng)),
+        _ => return Err("a kind is files, orders, boards, sessions, loads, designs or steps".to_string()),
     };
     write(out, &bundle::pack(&records))
 }
 
 fn without_orders(files: Vec<Vec<u8>>) -> Vec<Vec<u8>> {
     files.into_iter().flat_map(|file| [file, Vec::new()]).collect()
+}
+
+fn cut_after_each(sessions: &[Vec<u8>]) -> Vec<Vec<u8>> {
+    let mut records = Vec::new();
+    for pair in sessions.chunks(2) {
+        let mut at = 0;
+        while let Ok((_, took)) = read_order(&pair[1][at..]) {
+            at += took;
+            records.extend([pair[0].clone(), pair[1][..at].to_vec()]);
+        }
+    }
+    records
 }
 
 fn unpack(path: &str, record: usize, out: &str) -> Result<ExitCode, String> {
