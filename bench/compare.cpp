@@ -16,6 +16,8 @@
 
 // Exported by the crate `hosted`: loads the file so many times, and gives the total held, or 0 where it is refused.
 extern "C" uint64_t boddivarn_load(const uint8_t *file, size_t length, uint32_t times);
+// Loads the file, then asks for all cones so many times.
+extern "C" uint64_t boddivarn_cones(const uint8_t *file, size_t length, uint32_t times);
 
 struct Run { int length, saving; };
 struct Part { int fastest, power; std::vector<Run> runs; };
@@ -141,6 +143,19 @@ struct Ratios {
     }
 };
 
+// Of a full board: all cones of all parts; and what comes before solving, by a load that is refused for time (file, loops, times, shown path).
+static void print_rest(Draw &draw) {
+    Board b;
+    make_board(b, "dense", 64, 50, draw);
+    std::vector<uint8_t> file = file_of(b);
+    double once = best_of_three([&] { boddivarn_cones(file.data(), file.size(), 0); });
+    double cones = best_of_three([&] { boddivarn_cones(file.data(), file.size(), 100); });
+    b.deadline = 1;
+    std::vector<uint8_t> slow = file_of(b);
+    double judged = best_of_three([&] { boddivarn_load(slow.data(), slow.size(), 100); });
+    std::printf("64 parts, %d links: all cones %.1f us, read and judged %.1f us\n", (int)b.links.size(), (cones - once) / 100, judged / 100);
+}
+
 int main(int argc, char **argv) {
     const int boards = argc > 1 ? std::atoi(argv[1]) : 4;
     Draw draw(argc > 2 ? std::strtoull(argv[2], nullptr, 10) : 1);
@@ -165,6 +180,7 @@ int main(int argc, char **argv) {
         here.print(shape, parts);
     }
     all.print("all", 0);
+    print_rest(draw);
     std::printf("%d totals differ\n", wrong);
     return wrong != 0;
 }
