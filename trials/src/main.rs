@@ -26,10 +26,13 @@
 //!   I total T ends e0 e1 .. delays d0 d1 .. | I no N place P path K p1 .. pK
 //! `trials sessions BUNDLE`: records by twos, design file and orders.
 //!   session I, then the lines of `inspect`
+//! `trials advised BUNDLE`: records by twos, design file and advice.
+//!   session I, then of `inspect` the lines load, part and total
 //! `trials make KIND COUNT SEED OUT`: writes a bundle of COUNT cases; KIND is
-//!   files, orders, boards or sessions (two records for each session); loads
-//!   and designs are files and boards as sessions without orders, and steps
-//!   are sessions cut after each of their orders, to see every state between.
+//!   files, orders, boards, sessions or advised (two records for each session);
+//!   loads and designs are files and boards as sessions without orders, and
+//!   steps are sessions cut after each of their orders, to see every state
+//!   between.
 //! `trials unpack BUNDLE NUMBER OUT`: one record by itself, to look at it.
 //! `trials compare LEFT RIGHT`: exit 0 where two outputs are the same; else 1
 //!   and the first lines that differ.
@@ -62,10 +65,15 @@ fn run(words: &[&str]) -> Result<ExitCode, String> {
         ["orders", path] => each(path, report::orders)?,
         ["solve", path] => each(path, report::solve)?,
         ["sessions", path] => each(path, report::sessions)?,
+        ["advised", path] => each(path, report::advised)?,
         ["make", kind, count, seed, out] => return make_bundle(kind, number(count)?, number(seed)?, out),
         ["unpack", path, record, out] => return unpack(path, number(record)?, out),
         ["compare", left, right] => return compare(left, right),
-        _ => return Err("inspect, show, read, orders, solve, sessions, make, unpack or compare".to_string()),
+        _ => {
+            return Err(
+                "inspect, show, read, orders, solve, sessions, advised, make, unpack or compare".to_string()
+            )
+        }
     };
     let mut out = std::io::stdout().lock();
     out.write_all(text.as_bytes()).map_err(|fault| fault.to_string())?;
@@ -116,10 +124,15 @@ fn make_bundle(kind: &str, count: usize, seed: u64, out: &str) -> Result<ExitCod
         "orders" => make::orders(count, rng),
         "boards" => make::boards(count, rng),
         "sessions" => make::sessions(count, rng),
+        "advised" => make::advised(count, rng),
         "loads" => without_orders(make::files(count, rng)),
         "designs" => without_orders(make::boards(count, rng)),
         "steps" => cut_after_each(&make::sessions(count, rng)),
-        _ => return Err("a kind is files, orders, boards, sessions, loads, designs or steps".to_string()),
+        _ => {
+            return Err(
+                "a kind is files, orders, boards, sessions, advised, loads, designs or steps".to_string()
+            )
+        }
     };
     write(out, &bundle::pack(&records))
 }

@@ -1,5 +1,6 @@
 //! Cases to try, by chance but the same for the same seed.
 
+pub mod advice;
 pub mod boards;
 pub mod damage;
 pub mod orders;
@@ -65,6 +66,18 @@ pub fn sessions(count: usize, rng: &mut Rng) -> Vec<Vec<u8>> {
         let mut stream = stream(&file, rng);
         stream.truncate(LONGEST_STREAM);
         records.extend([file, stream]);
+    }
+    records
+}
+
+/// Design files of boards of all families, each with advice: the kinds of
+/// advice come by turns.
+pub fn advised(count: usize, rng: &mut Rng) -> Vec<Vec<u8>> {
+    let mut records = Vec::new();
+    for index in 0..count {
+        let board = boards::board(rng);
+        let kind = advice::KINDS[index % advice::KINDS.len()];
+        records.extend([write_design(&board), advice::advice(kind, &board, rng)]);
     }
     records
 }

@@ -1,9 +1,10 @@
 //! The texts that the programs print; formats at the top of `main.rs`.
 
+use crate::board::Board;
 use crate::desk::{label, Answer, Desk, Held, Marks, Tally};
 use crate::file::{read_design, read_order, write_design};
 use crate::refusal::Refusal;
-use crate::solve::cheapest;
+use crate::solve::{cheapest, Budget};
 use std::fmt::Write;
 
 fn line(text: &mut String, words: std::fmt::Arguments) {
@@ -85,12 +86,7 @@ fn inspect_held(text: &mut String, desk: &Desk, held: &Held) {
     let mut buffer = [0; 1_926];
     let length = desk.write(&mut buffer).expect("the longest file has 1,926 bytes");
     line(text, format_args!("file {}", hex(&buffer[..length])));
-    for part in 0..held.board.parts() {
-        let (start, delay, end) = timed(held, part);
-        let power = desk.power(part as u32, delay).expect("a budget is on the curves");
-        line(text, format_args!("part {part} start {start} delay {delay} end {end} power {power}"));
-    }
-    line(text, format_args!("total {}", held.budget.total));
+    inspect_budget(text, &held.board, &held.budget);
     for &(from, to) in &held.board.links {
         let critical = u32::from(held.is_critical((from, to)));
         line(text, format_args!("link {from} {to} critical {critical}"));
@@ -98,6 +94,15 @@ fn inspect_held(text: &mut String, desk: &Desk, held: &Held) {
     for part in 0..held.board.parts() {
         inspect_sets(text, desk, part as u32).expect("the part is on the board");
     }
+}
+
+fn inspect_budget(text: &mut String, board: &Board, budget: &Budget) {
+    for (part, curve) in board.curves.iter().enumerate() {
+        let (start, delay, end) = (budget.starts[part], budget.delays[part], budget.ends[part]);
+        let power = curve.power_at(delay).expect("a budget is on the curves");
+        line(text, format_args!("part {part} start {start} delay {delay} end {end} power {power}"));
+    }
+    line(text, format_args!("total {}", budget.total));
 }
 
 fn inspect_sets(text: &mut String, desk: &Desk, part: u32) -> Result<(), Refusal> {
@@ -212,6 +217,21 @@ pub fn sessions(records: &[&[u8]]) -> String {
         line(&mut text, format_args!("session {}", index + 1));
         let orders = pair.get(1).copied().unwrap_or_default();
         text += &inspect(pair[0], orders);
+    }
+    text
+}
+
+/// Design files, each with advice, which changes nothing.
+pub fn advised(records: &[&[u8]]) -> String {
+    let mut text = String::new();
+    for (index, pair) in records.chunks(2).enumerate() {
+        line(&mut text, format_args!("session {}", index + 1));
+        let checked = read_design(pair[0]).and_then(|board| board.check_loops_and_times().map(|()| board));
+        let (number, place, path) = facts(&checked);
+        line(&mut text, format_args!("load no {number} place {place} path {}{}", path.len(), spaced(path)));
+        if let Ok(board) = checked {
+            inspect_budget(&mut text, &board, &cheapest(&board));
+        }
     }
     text
 }

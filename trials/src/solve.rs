@@ -202,6 +202,22 @@ pub fn cheapest(board: &Board) -> Budget {
     budget
 }
 
+/// A flow that proves the held budget of such a board: the loads of its parts,
+/// of its links, of the parts' entries and then of their exits.
+pub fn loads(board: &Board) -> Vec<u32> {
+    let mut network = Network::of(board);
+    network.fill();
+    let mut loads: Vec<u32> = Vec::new();
+    let mut next = network.arcs.iter().skip(1).step_by(2).map(|back| back.room as u32);
+    for curve in &board.curves {
+        loads.push(next.by_ref().take(curve.runs.len() + 1).sum());
+    }
+    loads.extend(next.by_ref().take(board.links.len()));
+    let (entries, exits): (Vec<_>, Vec<_>) = next.enumerate().partition(|(place, _)| place % 2 == 0);
+    loads.extend(entries.into_iter().chain(exits).map(|(_, load)| load));
+    loads
+}
+
 /// The total with all parts at their slowest, deadline or not.
 fn least_possible(board: &Board) -> i64 {
     board.curves.iter().map(|curve| i64::from(curve.power - curve.savings())).sum()

@@ -3,7 +3,7 @@
 
 use std::collections::{BTreeMap, BTreeSet};
 use trials::file::{read_design, read_order};
-use trials::make::{self, boards::*};
+use trials::make::{self, advice, boards::*};
 use trials::report;
 use trials::rng::Rng;
 
@@ -107,4 +107,27 @@ fn sessions_meet_every_refusal_of_orders() {
     assert_met(&counts, &[0], 2_000);
     assert_met(&counts, &[7, 9, 10, 11, 13, 14, 15, 17], 10);
     assert_met(&counts, &[2, 4, 12], 5);
+}
+
+/// Right advice has loads, stale and hostile advice differs from it, and a
+/// board that is refused is advised too.
+#[test]
+fn advice_of_every_kind() {
+    let rng = &mut Rng::new(12);
+    let (mut right, mut other) = ([0; 4], [0; 4]);
+    for index in 0..800 {
+        let board = board_in_time(rng);
+        let sound = advice::advice(advice::Kind::Right, &board, rng);
+        let given = advice::advice(advice::KINDS[index % 4], &board, rng);
+        assert!(given.len() <= 4 * advice::LOADS);
+        right[index % 4] += usize::from(given == sound);
+        other[index % 4] += usize::from(given != sound);
+    }
+    assert_eq!(right[0], 200);
+    assert!(other[1] > 50 && right[1] > 20, "stale advice is often still right: {right:?} {other:?}");
+    assert_eq!(right[2], 0);
+    assert!(other[3] > 150, "{other:?}");
+    let records = make::advised(400, rng);
+    assert_eq!(records.len(), 800);
+    assert!(records.chunks(2).any(|pair| report::solve(&[&pair[0]]).starts_with("1 no 9")));
 }

@@ -7,7 +7,7 @@ use trials::board::Board;
 use trials::climb::climb;
 use trials::make::boards::{self, board_in_time, tiny_board};
 use trials::rng::Rng;
-use trials::solve::{cheapest, choices, earliest, every_cheapest};
+use trials::solve::{cheapest, choices, earliest, every_cheapest, loads};
 
 fn acceptable(make: fn(&mut Rng) -> Board, rng: &mut Rng) -> Board {
     loop {
@@ -135,5 +135,42 @@ fn all_slowest_where_there_is_time() {
         let mut board = acceptable(board_in_time, rng);
         board.deadline = 1_000_000;
         assert_eq!(cheapest(&board).delays, board.slowest());
+    }
+}
+
+/// What makes a flow a proof of its budget, part by part and link by link.
+#[test]
+fn the_flow_proves_the_budget() {
+    let rng = &mut Rng::new(9);
+    for _ in 0..500 {
+        let board = acceptable(board_in_time, rng);
+        let (budget, sheet) = (cheapest(&board), loads(&board));
+        let (parts, links) = (board.parts(), board.links.len());
+        assert_eq!(sheet.len(), 3 * parts + links);
+        assert!(sheet.iter().all(|&load| load <= 64_000));
+        for part in 0..parts {
+            let linked = |is: fn(&(usize, usize), usize) -> bool| -> u32 {
+                board
+                    .links
+                    .iter()
+                    .enumerate()
+                    .filter(|(_, l)| is(l, part))
+                    .map(|(k, _)| sheet[parts + k])
+                    .sum()
+            };
+            let (entry, exit) = (sheet[parts + links + part], sheet[2 * parts + links + part]);
+            assert_eq!(sheet[part], entry + linked(|link, part| link.1 == part), "{board:?}");
+            assert_eq!(sheet[part], exit + linked(|link, part| link.0 == part), "{board:?}");
+            assert!(entry == 0 || budget.starts[part] == 0);
+            assert!(exit == 0 || budget.ends[part] == board.deadline);
+            let curve = &board.curves[part];
+            let delay = budget.delays[part];
+            let saving = |to: u32| Some(curve.power_at(to - 1)? - curve.power_at(to)?);
+            assert!(saving(delay).is_none_or(|last| sheet[part] <= last));
+            assert!(saving(delay + 1).is_none_or(|next| sheet[part] >= next));
+        }
+        for (k, &(from, to)) in board.links.iter().enumerate() {
+            assert!(sheet[parts + k] == 0 || budget.ends[from] == budget.starts[to]);
+        }
     }
 }
