@@ -33,7 +33,8 @@ pub fn inspect(file: &[u8], orders: &[u8]) {
     print_tally(counted);
 }
 
-fn print_answer(answer: Answer) {
+// The number and the place of an answer.
+pub fn print_answer(answer: Answer) {
     match answer {
         Answer::Done => console::text(b" no 0 place 0"),
         Answer::Refused { why, place } => {
@@ -43,7 +44,8 @@ fn print_answer(answer: Answer) {
     }
 }
 
-fn print_path(path: Trail) {
+// How many parts a path has, and then the parts.
+pub fn print_path(path: Trail) {
     console::number(b" path ", path.count as u64);
     let n = path.count;
     let mut k: usize = 0;
@@ -171,11 +173,16 @@ fn print_parts(d: Desk) {
 
 fn print_part(d: Desk, p: usize) {
     let asked = questions::part(d, p);
+    print_budgeted(p, asked.start.0, asked.delay.0, asked.end.0, asked.power.0);
+}
+
+// What a budget gives part `p`.
+pub fn print_budgeted(p: usize, start: u32, delay: u32, end: u32, power: u32) {
     console::number(b"part ", p as u64);
-    console::number(b" start ", asked.start.0 as u64);
-    console::number(b" delay ", asked.delay.0 as u64);
-    console::number(b" end ", asked.end.0 as u64);
-    console::number(b" power ", asked.power.0 as u64);
+    console::number(b" start ", start as u64);
+    console::number(b" delay ", delay as u64);
+    console::number(b" end ", end as u64);
+    console::number(b" power ", power as u64);
     console::end_line();
 }
 

@@ -1,7 +1,5 @@
 // A program for the trials: sessions.dat holds design files and streams of orders by turns, each after its length in four bytes, lowest
 // first. Prints of each pair what `inspect` prints. One process takes many sessions.
-ghost use Prim.Native.Nat.{_<_};
-ghost use Rattle.io.specs.Counts.{Counts};
 
 const MOST: u64 = 1000000;
 
@@ -29,36 +27,13 @@ fn next_session(fd: i32, session: u64) -> bool {
     if io::read_full(fd, &mut length) < 4 {
         return false;
     }
-    let board_end = read_record(fd, length, &mut board);
+    let board_end = console::read_record(fd, length, &mut board);
     if io::read_full(fd, &mut length) < 4 {
         return false;
     }
-    let orders_end = read_record(fd, length, &mut orders);
+    let orders_end = console::read_record(fd, length, &mut orders);
     console::number(b"session ", session);
     console::end_line();
     report::inspect(&board[..board_end], &orders[..orders_end]);
     true
-}
-
-// A record of the length that its first three bytes say, as much of it as the buffer holds.
-fn read_record(fd: i32, length: [u8; 4], buf: &mut [u8]) -> usize
-    ensures { λ r. ⌜ Counts r (now (buf .exit)) ⌝ }
-{
-    let n = sized(wide(length[0]), wide(length[1]), wide(length[2]));
-    if buf.len() < n {
-        return io::read_full(fd, buf);
-    }
-    io::read_full(fd, &mut buf[..n])
-}
-
-fn sized(low: usize, middle: usize, high: usize) -> usize
-    requires { ⌜ (low < 256) × (middle < 256) × (high < 256) ⌝ }
-{
-    low + 256 * middle + 65536 * high
-}
-
-fn wide(byte: u8) -> usize
-    ensures { λ r. ⌜ r < 256 ⌝ }
-{
-    byte as usize
 }

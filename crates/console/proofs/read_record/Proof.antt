@@ -1,12 +1,12 @@
-use Rattle.sessions.proofs.Counted.{prefix-length, counts-more}
+use Rattle.console.proofs.Counted.{prefix-length, counts-more}
 use borrow.Author.Needs.{needs}
-use Rattle.sessions.proofs.read_record.Statement.{statement}
-use Rattle.sessions.proofs.read_record.Tie as tie
-use Rattle.sessions.proofs.read_record.Reads as reads
-use Rattle.sessions.proofs.read_record.Lts as lts
+use Rattle.console.proofs.read_record.Statement.{statement}
+use Rattle.console.proofs.read_record.Tie as tie
+use Rattle.console.proofs.read_record.Reads as reads
+use Rattle.console.proofs.read_record.Lts as lts
 use Rattle.io.proofs.read_full.Reads as read-full-reads
-use Rattle.sessions.proofs.sized.Reads as sized-reads
-use Rattle.sessions.proofs.wide.Reads as wide-reads
+use Rattle.console.proofs.sized.Reads as sized-reads
+use Rattle.console.proofs.wide.Reads as wide-reads
 
 -- src/main.rt:47:24
 array-read-wide : tie.Need-array-read-wide
