@@ -59,7 +59,7 @@ fn with_link(rows: [u64; 64], l: Link) -> [u64; 64]
 }
 
 // For each part the marks of those that its links lead to or, back, of those whose links lead to it.
-pub fn rows(b: Board, back: bool) -> [u64; 64]
+fn rows(b: Board, back: bool) -> [u64; 64]
     ensures { λ r. ⌜ r ≡ rowsOf b back ⌝ }
 {
     let n = capped(b.links, 256);
@@ -85,7 +85,7 @@ fn visited(s: Sweep, p: usize, row: u64) -> Sweep
 }
 
 // All parts that can be reached from the marked ones, and these.
-pub fn reached(rows: &[u64; 64], from: u64) -> u64
+fn reached(rows: &[u64; 64], from: u64) -> u64
     ensures { λ r. ⌜ r ≡ reachedOf (now (rows .entry)) from ⌝ }
 {
     let mut s = Sweep {

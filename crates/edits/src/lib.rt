@@ -10,7 +10,7 @@ use curve::Curve;
 use curve::Ticks;
 
 // How many of the board's links stand before this one: where it stands, or would.
-pub fn place_of(b: Board, x: Link) -> usize
+fn place_of(b: Board, x: Link) -> usize
     ensures { λ r. ⌜ r ≡ placeOf b x ⌝ }
 {
     let n = b.links;

@@ -28,7 +28,7 @@ fn capped(n: usize, most: usize) -> usize
 }
 
 // Whether a link is critical. The difference is compared with the link's ticks, so no sum can overflow.
-pub fn critical(start: [u32; 64], end: [u32; 64], l: Link) -> bool
+fn critical(start: [u32; 64], end: [u32; 64], l: Link) -> bool
     ensures { λ r. ⌜ r ≡ criticalb start end l ⌝ }
 {
     let p = l.from;
@@ -104,7 +104,7 @@ fn with_link(t: Rows, add: bool, l: Link) -> Rows
 }
 
 // The critical links of the board.
-pub fn critical_rows(b: Board, start: [u32; 64], end: [u32; 64]) -> Rows
+fn critical_rows(b: Board, start: [u32; 64], end: [u32; 64]) -> Rows
     ensures { λ r. ⌜ CriticalRows b start end r ⌝ }
 {
     let n = capped(b.links, 256);

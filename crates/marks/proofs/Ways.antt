@@ -11,7 +11,7 @@ use lib.Bits.{bitOr, bitXor}
 use lib.Count.{trailingZeros}
 use lib.Dec.{eqb}
 use borrow.Author.Tests.{ne-eqb}
-use Rattle.marks.specs.Marks.{bit, hasOf, unionOf, withoutOf, oneOf, insertOf, removeOf, lowestOf}
+use Rattle.marks.specs.Marks.{bit, hasOf, unionOf, withoutOf, oneOf, insertOf, lowestOf}
 use Rattle.marks.proofs.Bits.{bit-past, one-is, one-past}
 use Rattle.marks.proofs.Counts.{lowest-to}
 
@@ -41,10 +41,6 @@ cut a b = refl
 pub put : (s n o r : ℕ) → o ≡ oneOf n → r ≡ unionOf s o → r ≡ insertOf s n
 unfolding insertOf
 put s n o r e is = rw (← e) is
-
-pub taken : (s n o r : ℕ) → o ≡ oneOf n → r ≡ withoutOf s o → r ≡ removeOf s n
-unfolding removeOf
-taken s n o r e is = rw (← e) is
 
 pub low : (s : ℕ) → trailingZeros 64 s ≡ lowestOf s
 unfolding lowestOf

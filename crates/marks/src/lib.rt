@@ -1,7 +1,7 @@
 // A set of 64 marks, bit n for part n. A number of 64 or more is in no set, and putting it in changes nothing.
 ghost use mathlib.Core.Path.{_≡_};
 ghost use lib.Count.{ones};
-ghost use Rattle.marks.specs.Marks.{hasOf, unionOf, withoutOf, oneOf, insertOf, removeOf, lowestOf};
+ghost use Rattle.marks.specs.Marks.{hasOf, unionOf, withoutOf, oneOf, insertOf, lowestOf};
 
 pub fn has(set: u64, n: usize) -> bool
     ensures { λ r. ⌜ r ≡ hasOf set n ⌝ }
@@ -39,12 +39,6 @@ pub fn insert(set: u64, n: usize) -> u64
     ensures { λ r. ⌜ r ≡ insertOf set n ⌝ }
 {
     union(set, one(n))
-}
-
-pub fn remove(set: u64, n: usize) -> u64
-    ensures { λ r. ⌜ r ≡ removeOf set n ⌝ }
-{
-    without(set, one(n))
 }
 
 // The number of marks.
