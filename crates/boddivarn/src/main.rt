@@ -103,13 +103,13 @@ fn print_order(answer: Answer, count: usize) {
 
 fn print_table(d: Desk, names: &[u8]) {
     console::text(b"part label start delay end power\n");
-    let n = questions::parts(d).count;
+    let n = questions::whole(d).parts;
     let mut p: usize = 0;
     while p < n {
         print_part(d, p, names);
         p = p + 1;
     }
-    console::number(b"total ", questions::total(d).total);
+    console::number(b"total ", questions::whole(d).total);
     console::end_line();
 }
 

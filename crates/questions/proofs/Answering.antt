@@ -5,7 +5,7 @@ use mathlib.Core.Bool.{Bool, true, false, not}
 use Prim.Native.Nat.{ℕ, _≤_, _<_}
 use native.Mathlib.Omega.{arith}
 use lib.ListN.{getD}
-use borrow.Author.Tests.{lt-ltb, le-ltb, ltb-true}
+use borrow.Author.Tests.{lt-ltb, le-ltb, ltb-true, not-true, not-false}
 use Rattle.base.specs.Pick.{pick}
 use Rattle.refusal.specs.declared.Why.{Why}
 use Rattle.refusal.specs.declared.Why.the-variants.{OffCurve}
@@ -33,17 +33,16 @@ use Rattle.questions.specs.Tried.{noBoard, boardTried, partTried, Said}
 use Rattle.questions.specs.Sets.{countedOf, coneRefused, ConeGiven, UpstreamSaid, DownstreamSaid, CriticalIn, FamilySaid}
 use Rattle.questions.specs.Numbers.{powerRefused, powerTold, PowerSaid, partRefused, PartSaid}
 use Rattle.questions.specs.Links.{linkNone, criticalHeld, linkTold, LinkSaid}
-use Rattle.questions.proofs.Ways.{is-false, is-true}
 
 -- ---- a desk that holds a board that loads and orders gave
-pub not-true : (t : Bool) → t ≡ false → t ≡ true → ⊥
-not-true t e f = let z : _≡_ {A = ℕ} 0 1 = cc in omega arith
+pub off-on : (t : Bool) → t ≡ false → t ≡ true → ⊥
+off-on t e f = let z : _≡_ {A = ℕ} 0 1 = cc in omega arith
 
 pub never : {A : Type 0} {why : Why} {place : ℕ} → Refused why place ≡ Done → A
 never e = absurd (let z : _≡_ {A = ℕ} 0 1 = cc in omega arith)
 
 pub standing-kept : (d : Desk) → Standing d → d .held ≡ true → Kept (d .board) (d .budget)
-standing-kept d (empty none) held = absurd (not-true (d .held) none held)
+standing-kept d (empty none) held = absurd (off-on (d .held) none held)
 standing-kept d (holding h) held = h .kept
 
 -- a question that is not refused is one of a board and of a part of it
@@ -169,12 +168,12 @@ module _ (c : Curve) (delay : ℕ) where
 module _ (d : Desk) (l : ℕ) where
   pub link-refused : (a : Answer) (r : LinkAsked) → not (d .held) ≡ true → a ≡ noBoard → r ≡ linkNone a → LinkSaid d l r
   unfolding LinkSaid boardTried pick
-  link-refused a r none e is = rw (is-false (d .held) none) (is ∙ rw e)
+  link-refused a r none e is = rw (not-true (d .held) none) (is ∙ rw e)
 
   module _ (held : not (d .held) ≡ false) where
     tried-done : boardTried d ≡ Done
     unfolding boardTried pick
-    tried-done = rw (is-true (d .held) held)
+    tried-done = rw (not-false (d .held) held)
 
     pub link-past : (r : LinkAsked) → d .board .links ≤ l → r ≡ linkNone Done → LinkSaid d l r
     unfolding LinkSaid linkTold pick
@@ -183,7 +182,7 @@ module _ (d : Desk) (l : ℕ) where
     pub link-wide : (r : LinkAsked) → l < d .board .links → 256 ≤ l → LinkSaid d l r
     unfolding LinkSaid
     link-wide r here wide =
-        rw tried-done (λ st. absurd (let k = standing-kept d st (is-true (d .held) held) .formed .links-to in omega (arith, k)))
+        rw tried-done (λ st. absurd (let k = standing-kept d st (not-false (d .held) held) .formed .links-to in omega (arith, k)))
 
     pub link-there : (t : Bool) → l < d .board .links → t ≡ criticalHeld d l →
         LinkSaid d l (record { answer = Done; there = true; from = linkAt (d .board) l .from; to = linkAt (d .board) l .to; critical = t })

@@ -30,7 +30,7 @@ said-once :
 said-once d refused Is once st (Refused why place) r r′ x y = x ∙ sym y
 said-once d refused Is once st Done r r′ x y = once r r′ (x st) (y st)
 
--- the contracts of `total`, `deadline`, `parts` and `links` are equations, and this is the law for them
+-- the contract of `whole` is an equation, and this is the law for it
 pub equal-once : {R : Type 0} (v r r′ : R) → r ≡ v → r′ ≡ v → r ≡ r′
 equal-once v r r′ x y = x ∙ sym y
 

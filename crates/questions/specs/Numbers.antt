@@ -15,9 +15,7 @@ use Rattle.budget.specs.declared.Budget.{Budget}
 use Rattle.desk.specs.declared.Desk.{Desk}
 use Rattle.questions.specs.declared.PowerAsked.{PowerAsked}
 use Rattle.questions.specs.declared.PartAsked.{PartAsked}
-use Rattle.questions.specs.declared.TotalAsked.{TotalAsked}
-use Rattle.questions.specs.declared.DeadlineAsked.{DeadlineAsked}
-use Rattle.questions.specs.declared.CountAsked.{CountAsked}
+use Rattle.questions.specs.declared.WholeAsked.{WholeAsked}
 use Rattle.questions.specs.Tried.{noBoard, partTried, Said}
 
 -- ---- "Power of a part at a delay": any delay may be asked for, and 19 is given last
@@ -53,19 +51,15 @@ partOf b p = record {
 unfoldable pub PartSaid : Desk → ℕ → PartAsked → Type 0
 PartSaid d p r = Said (partTried d p) d partRefused (λ r. r ≡ partOf (d .budget) p) r
 
--- ---- the held budget and board as a whole
-unfoldable pub totalAsked : Desk → TotalAsked
-totalAsked d = pick (d .held) (record { answer = Done; total = d .budget .total }) (record { answer = noBoard; total = 0 })
-
-unfoldable pub deadlineAsked : Desk → DeadlineAsked
-deadlineAsked d =
-    pick (d .held) (record { answer = Done; deadline = d .board .deadline }) (record { answer = noBoard; deadline = record { 0 = 0 } })
-
-unfoldable pub countAsked : Bool → ℕ → CountAsked
-countAsked held count = pick held (record { answer = Done; count = count }) (record { answer = noBoard; count = 0 })
-
-abbrev pub partsAsked : Desk → CountAsked
-partsAsked d = countAsked (d .held) (d .board .parts)
-
-abbrev pub linksAsked : Desk → CountAsked
-linksAsked d = countAsked (d .held) (d .board .links)
+-- ---- the held board and its budget as a whole
+unfoldable pub wholeAsked : Desk → WholeAsked
+wholeAsked d =
+    pick (d .held)
+    (record {
+      answer = Done;
+      deadline = d .board .deadline;
+      parts = d .board .parts;
+      links = d .board .links;
+      total = d .budget .total;
+    })
+    (record { answer = noBoard; deadline = record { 0 = 0 }; parts = 0; links = 0; total = 0 })

@@ -14,7 +14,7 @@ ghost use Rattle.kin.specs.Kin.{KinOf};
 ghost use Rattle.questions.specs.Tried.{noBoard, noPart, partTried};
 ghost use Rattle.questions.specs.Sets.{countedOf, UpstreamSaid, DownstreamSaid, CriticalIn, FamilySaid};
 ghost use Rattle.questions.specs.Links.{linkNone, criticalHeld, LinkSaid};
-ghost use Rattle.questions.specs.Numbers.{powerRefused, powerTold, PowerSaid, partRefused, PartSaid, totalAsked, deadlineAsked, countAsked, partsAsked, linksAsked};
+ghost use Rattle.questions.specs.Numbers.{powerRefused, powerTold, PowerSaid, partRefused, PartSaid, wholeAsked};
 
 // A set of 64 marks, bit n for part n, and the number of parts marked.
 pub struct Marked {
@@ -49,20 +49,13 @@ pub struct PartAsked {
     pub power: Microwatts,
 }
 
-pub struct TotalAsked {
-    pub answer: Answer,
-    pub total: u64,
-}
-
-pub struct DeadlineAsked {
+// The deadline, how many parts and links there are, and what all parts draw together.
+pub struct WholeAsked {
     pub answer: Answer,
     pub deadline: Ticks,
-}
-
-// How many parts or links there are.
-pub struct CountAsked {
-    pub answer: Answer,
-    pub count: usize,
+    pub parts: usize,
+    pub links: usize,
+    pub total: u64,
 }
 
 // A link by its place among the links; no refusal is listed for a place past the last link, and `there` says that none is there.
@@ -273,64 +266,27 @@ pub fn part(d: Desk, part: usize) -> PartAsked
     }
 }
 
-// What all parts draw together in the held budget.
-pub fn total(d: Desk) -> TotalAsked
-    ensures { λ r. ⌜ r ≡ totalAsked d ⌝ }
+// The held board and its budget as a whole.
+pub fn whole(d: Desk) -> WholeAsked
+    ensures { λ r. ⌜ r ≡ wholeAsked d ⌝ }
 {
-    if d.held {
-        return TotalAsked {
-            answer: Answer::Done,
-            total: d.budget.total,
+    if !d.held {
+        return WholeAsked {
+            answer: no_board(),
+            deadline: Ticks(0),
+            parts: 0,
+            links: 0,
+            total: 0,
         };
     }
-    TotalAsked {
-        answer: no_board(),
-        total: 0,
+    let deadline = d.board.deadline;
+    WholeAsked {
+        answer: Answer::Done,
+        deadline: deadline,
+        parts: d.board.parts,
+        links: d.board.links,
+        total: d.budget.total,
     }
-}
-
-pub fn deadline(d: Desk) -> DeadlineAsked
-    ensures { λ r. ⌜ r ≡ deadlineAsked d ⌝ }
-{
-    if d.held {
-        let deadline = d.board.deadline;
-        return DeadlineAsked {
-            answer: Answer::Done,
-            deadline: deadline,
-        };
-    }
-    DeadlineAsked {
-        answer: no_board(),
-        deadline: Ticks(0),
-    }
-}
-
-// A count of what the held board has.
-fn counts(held: bool, count: usize) -> CountAsked
-    ensures { λ r. ⌜ r ≡ countAsked held count ⌝ }
-{
-    if held {
-        return CountAsked {
-            answer: Answer::Done,
-            count: count,
-        };
-    }
-    CountAsked {
-        answer: no_board(),
-        count: 0,
-    }
-}
-
-pub fn parts(d: Desk) -> CountAsked
-    ensures { λ r. ⌜ r ≡ partsAsked d ⌝ }
-{
-    counts(d.held, d.board.parts)
-}
-
-pub fn links(d: Desk) -> CountAsked
-    ensures { λ r. ⌜ r ≡ linksAsked d ⌝ }
-{
-    counts(d.held, d.board.links)
 }
 
 // No link, and why.

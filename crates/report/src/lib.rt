@@ -124,12 +124,13 @@ fn print_held(d: Desk) {
         return;
     }
     console::text(b"held 1\n");
-    console::number(b"deadline ", questions::deadline(d).deadline.0 as u64);
+    let whole = questions::whole(d);
+    console::number(b"deadline ", whole.deadline.0 as u64);
     console::text(b"\nfile ");
     print_file(d);
     console::end_line();
     print_parts(d);
-    console::number(b"total ", questions::total(d).total);
+    console::number(b"total ", whole.total);
     console::end_line();
     print_links(d);
     print_sets(d);
@@ -163,7 +164,7 @@ fn bytes_needed(answer: Answer) -> usize {
 }
 
 fn print_parts(d: Desk) {
-    let n = questions::parts(d).count;
+    let n = questions::whole(d).parts;
     let mut p: usize = 0;
     while p < n {
         print_part(d, p);
@@ -187,7 +188,7 @@ pub fn print_budgeted(p: usize, start: u32, delay: u32, end: u32, power: u32) {
 }
 
 fn print_links(d: Desk) {
-    let n = questions::links(d).count;
+    let n = questions::whole(d).links;
     let mut l: usize = 0;
     while l < n {
         print_link(d, l);
@@ -207,7 +208,7 @@ fn print_link(d: Desk, l: usize) {
 }
 
 fn print_sets(d: Desk) {
-    let n = questions::parts(d).count;
+    let n = questions::whole(d).parts;
     let mut p: usize = 0;
     while p < n {
         print_set(d, p);
