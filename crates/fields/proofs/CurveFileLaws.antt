@@ -1,12 +1,12 @@
 -- A curve as bytes: what is read is a good curve, a good curve written is read back, and what is read is rewritten byte for byte.
 -- Assumes nothing.
 use mathlib.Core.Path.{_≡_, refl, ap, _∙_}
-use mathlib.Core.List.{List, _++_}
+use mathlib.Core.List.{List, [], _++_}
 use Prim.Native.Nat.{ℕ, _+_, _-_, _≤_, _<_}
 use native.Mathlib.Omega.{arith}
 use mathlib.Core.Logic.{⊎-elim}
 use lib.ListN.{length, length-append}
-use borrow.Author.Tests.{leb-true, le-leb}
+use borrow.Author.Tests.{leb-true, le-leb, lt-leb}
 use Rattle.base.specs.Pick.{pick}
 use Rattle.base.proofs.Cases.{lt-or-le}
 use Rattle.groups.specs.Number.{encode}
@@ -16,7 +16,7 @@ use Rattle.curve.specs.declared.Run.{Run}
 use Rattle.curve.specs.declared.Curve.{Curve}
 use Rattle.curve.specs.Curve.{noRun, runAt, lengthAt, savingAt, savingsOf, Good}
 use Rattle.fields.specs.Parse.{Parse, got, and-then, fieldAt}
-use Rattle.fields.specs.CurveFile.{runsFrom, curveFrom, runBytes, runsBytes, curveBytes}
+use Rattle.fields.specs.CurveFile.{runsFrom, curveFrom, runBytes, runsBytes, numbersOf, curveBytes}
 use Rattle.fields.proofs.ParseLaws.{then-got, pick-passed, got-same, field-got}
 use Rattle.fields.proofs.Stands.{Stands, stands-first, stands-then, stands-join, field-reads-back, field-stands, field-next}
 use Rattle.fields.proofs.WritingLaws.{row-size}
@@ -90,14 +90,24 @@ curve-good s at c next is =
       room = r .room;
     }
 
+-- what stands for a curve
+pub curve-form : (c : Curve) → c .count ≤ 4 → curveBytes c ≡ numbersOf c
+unfolding curveBytes pick
+curve-form c few = rw (le-leb _ _ few)
+
+pub curve-no-form : (c : Curve) → 4 < c .count → curveBytes c ≡ []
+unfolding curveBytes pick
+curve-no-form c many = rw (lt-leb _ _ many)
+
 -- what is read is rewritten byte for byte
 pub curve-writes-back : (s : List ℕ) (at : ℕ) (c : Curve) (next : ℕ) → Bytes s → curveFrom s at ≡ got c next → Stands s at (curveBytes c) next
-unfolding curveBytes
 curve-writes-back s at c next bytes is =
     let t = curve-told s at c next is in
-    stands-join (field-stands s 1 1023 at (c .fastest .0) (t .at₁) bytes (t .fastest))
+    let few = field-got s 0 4 (t .at₂) (c .count) (t .at₃) (t .count) .to in
+    rw (curve-form c few)
+    (stands-join (field-stands s 1 1023 at (c .fastest .0) (t .at₁) bytes (t .fastest))
     (stands-join (field-stands s 0 2000000 (t .at₁) (c .power .0) (t .at₂) bytes (t .power))
-    (stands-join (field-stands s 0 4 (t .at₂) (c .count) (t .at₃) bytes (t .count)) (t .runs .stands bytes)))
+    (stands-join (field-stands s 0 4 (t .at₂) (c .count) (t .at₃) bytes (t .count)) (t .runs .stands bytes))))
 
 -- a curve that was read ends past its place and within the bytes
 pub curve-next : (s : List ℕ) (at : ℕ) (c : Curve) (next : ℕ) → curveFrom s at ≡ got c next → (at < next) × (next ≤ length s)
@@ -113,19 +123,20 @@ curve-is : (c : Curve) (runs : List Run) → runs ≡ c .runs → _≡_ {A = Cur
 curve-is c runs same = rw same
 
 pub curve-reads-back : (s : List ℕ) (at : ℕ) (c : Curve) (next : ℕ) → Good c → Stands s at (curveBytes c) next → curveFrom s at ≡ got c next
-unfolding curveBytes curveFrom runsFrom and-then pick
+unfolding curveFrom runsFrom and-then pick
 curve-reads-back s at c next good x =
     let f = encode (c .fastest .0) in
     let p = encode (c .power .0) in
     let n = encode (c .count) in
     let r = runsBytes c (c .count) in
-    let x₁ = stands-then f (p ++ (n ++ r)) x in
+    let x₀ : Stands s at (f ++ (p ++ (n ++ r))) next = rw (curve-form c (good .count-to)) at x in
+    let x₁ = stands-then f (p ++ (n ++ r)) x₀ in
     let x₂ = stands-then p (n ++ r) x₁ in
     let back = runs-back s c good _ (c .count) next (omega arith) (stands-then n r x₂) in
     let all : back .runs ≡ c .runs = filling-all noRun noRun 4 (c .runs) (c .count) (back .runs) (back .filling) (good .room) (good .blank) in
     let read = back .read ∙ ap (λ (d : Curve). got d next) (curve-is c (back .runs) all) in
     rw (
-      field-reads-back 1 1023 (c .fastest .0) (omega arith) (good .fastest-from) (good .fastest-to) (stands-first f (p ++ (n ++ r)) x),
+      field-reads-back 1 1023 (c .fastest .0) (omega arith) (good .fastest-from) (good .fastest-to) (stands-first f (p ++ (n ++ r)) x₀),
       field-reads-back 0 2000000 (c .power .0) (omega arith) (omega arith) (good .power-to) (stands-first p (n ++ r) x₁),
       field-reads-back 0 4 (c .count) (omega arith) (omega arith) (good .count-to) (stands-first n r x₂),
       read,
@@ -152,14 +163,13 @@ module _ (c : Curve) (good : Good c) where
   runs-size = omega (arith, row-size (λ i. runBytes (runAt c i)) 4 (c .count) run-size, good .count-to)
 
   pub curve-size-le : length (curveBytes c) ≤ 22
-  unfolding curveBytes
   curve-size-le =
       let p = encode (c .power .0) in
       let n = encode (c .count) in
       let r = runsBytes c (c .count) in
       let few = good .count-to in
       let fast = good .fastest-to in
-      omega (
+      rw (curve-form c few) (omega (
         arith,
         length-append (encode (c .fastest .0)) (p ++ (n ++ r)),
         length-append p (n ++ r),
@@ -168,4 +178,4 @@ module _ (c : Curve) (good : Good c) where
         size-le (c .power .0),
         size-to-1 (c .count) (omega arith),
         runs-size,
-      )
+      ))

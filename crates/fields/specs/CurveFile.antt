@@ -2,7 +2,7 @@
 -- Assumes nothing.
 use Prim.Native.Nat.{ℕ, _-_}
 use mathlib.Core.Bool.{Bool, true}
-use mathlib.Core.List.{List, _++_}
+use mathlib.Core.List.{List, [], _++_}
 use lib.Dec.{ltb, leb, eqb}
 use lib.ListN.{set, replicate}
 use Rattle.base.specs.Pick.{pick}
@@ -71,5 +71,9 @@ runBytes run = encode (run .length .0) ++ encode (run .saving .0)
 unfoldable pub runsBytes : Curve → ℕ → List ℕ
 runsBytes c k = inRow (λ i. runBytes (runAt c i)) k
 
+abbrev pub numbersOf : Curve → List ℕ
+numbersOf c = encode (c .fastest .0) ++ (encode (c .power .0) ++ (encode (c .count) ++ runsBytes c (c .count)))
+
+-- the form of a curve; one of more runs than there is room for has none, and no bytes stand for it
 unfoldable pub curveBytes : Curve → List ℕ
-curveBytes c = encode (c .fastest .0) ++ (encode (c .power .0) ++ (encode (c .count) ++ runsBytes c (c .count)))
+curveBytes c = pick (leb (c .count) 4) (numbersOf c) []

@@ -7,13 +7,12 @@ use groups::Read;
 use refusal::Answer;
 use refusal::Why;
 ghost use mathlib.Core.Path.{_≡_};
-ghost use Prim.Native.Nat.{_≤_, _<_, _+_};
+ghost use Prim.Native.Nat.{_≤_, _<_};
 ghost use lib.ListN.{length};
-ghost use Rattle.curve.specs.Curve.{Good};
 ghost use Rattle.groups.specs.Number.{encode};
 ghost use Rattle.fields.specs.Parse.{number, rangedAt, fieldAt, stop, repeat};
 ghost use Rattle.fields.specs.CurveFile.{bare, falls, runFrom, runsFrom, curveFrom, curveRead, runBytes, runsBytes, curveBytes};
-ghost use Rattle.fields.specs.Writing.{Wrote};
+ghost use Rattle.fields.specs.Writing.{WroteIfRoom, WroteOrNothing};
 
 // A curve and the place past it, or the first fault.
 pub struct CurveRead {
@@ -186,29 +185,38 @@ pub fn read_curve(s: &[u8], at: usize) -> CurveRead
     }
 }
 
-// Writes a number where there is room for it, and hands back the place past it.
-pub fn put(buf: &mut [u8], at: usize, n: u32) -> usize
-    requires { ⌜ at + length (encode n) ≤ length (now buf) ⌝ }
-    ensures { λ r. ⌜ Wrote (now (buf .entry)) at (encode n) r (now (buf .exit)) ⌝ }
+// A number of the same form. What reaches the limit has none.
+fn narrow(n: usize) -> u32
+    ensures { λ r. ⌜ encode r ≡ encode n ⌝ }
 {
-    groups::write_number(buf, at, n)
+    if groups::LIMIT as usize <= n {
+        return groups::LIMIT;
+    }
+    n as u32
 }
 
-// The bytes of a number's form.
-pub fn size(n: u32) -> usize
+// The bytes of a number's form; 0 for a number that has none.
+pub fn size(n: usize) -> usize
     ensures { λ r. ⌜ (r ≡ length (encode n)) × (r ≤ 3) ⌝ }
 {
-    groups::size(n)
+    groups::size(narrow(n))
+}
+
+// Writes a number's form at a place and hands back the place past it; without a form or without room it does nothing.
+pub fn put(buf: &mut [u8], at: usize, n: usize) -> usize
+    ensures { λ r. ⌜ WroteOrNothing (now (buf .entry)) at (encode n) r (now (buf .exit)) ⌝ }
+{
+    groups::write_number(buf, at, narrow(n))
 }
 
 fn run_size(run: Run) -> usize
     ensures { λ r. ⌜ (r ≡ length (runBytes run)) × (r ≤ 6) ⌝ }
 {
-    size(run.length.0) + size(run.saving.0)
+    size(run.length.0 as usize) + size(run.saving.0 as usize)
 }
 
 fn runs_size(c: Curve) -> usize
-    requires { ⌜ Good c ⌝ }
+    requires { ⌜ c .count ≤ 4 ⌝ }
     ensures { λ r. ⌜ (r ≡ length (runsBytes c (c .count))) × (r ≤ 24) ⌝ }
 {
     let count = c.count;
@@ -221,25 +229,27 @@ fn runs_size(c: Curve) -> usize
     bytes
 }
 
-// The bytes that a curve takes.
+// The bytes of a curve's form; 0 for a curve that has none.
 pub fn curve_size(c: Curve) -> usize
-    requires { ⌜ Good c ⌝ }
-    ensures { λ r. ⌜ (r ≡ length (curveBytes c)) × (r ≤ 22) ⌝ }
+    ensures { λ r. ⌜ (r ≡ length (curveBytes c)) × (r ≤ 33) ⌝ }
 {
-    size(c.fastest.0) + size(c.power.0) + size(c.count as u32) + runs_size(c)
+    if Curve::RUNS_MAX < c.count {
+        return 0;
+    }
+    let numbers = size(c.fastest.0 as usize) + size(c.power.0 as usize) + size(c.count);
+    numbers + runs_size(c)
 }
 
 fn write_run(buf: &mut [u8], at: usize, run: Run) -> usize
-    requires { ⌜ at + length (runBytes run) ≤ length (now buf) ⌝ }
-    ensures { λ r. ⌜ Wrote (now (buf .entry)) at (runBytes run) r (now (buf .exit)) ⌝ }
+    ensures { λ r. ⌜ WroteIfRoom (now (buf .entry)) at (runBytes run) r (now (buf .exit)) ⌝ }
 {
-    let next = put(buf, at, run.length.0);
-    put(buf, next, run.saving.0)
+    let next = put(buf, at, run.length.0 as usize);
+    put(buf, next, run.saving.0 as usize)
 }
 
 fn write_runs(buf: &mut [u8], at: usize, c: Curve) -> usize
-    requires { ⌜ (Good c) × (at + length (runsBytes c (c .count)) ≤ length (now buf)) ⌝ }
-    ensures { λ r. ⌜ Wrote (now (buf .entry)) at (runsBytes c (c .count)) r (now (buf .exit)) ⌝ }
+    requires { ⌜ c .count ≤ 4 ⌝ }
+    ensures { λ r. ⌜ WroteIfRoom (now (buf .entry)) at (runsBytes c (c .count)) r (now (buf .exit)) ⌝ }
 {
     let count = c.count;
     let mut next = at;
@@ -251,13 +261,30 @@ fn write_runs(buf: &mut [u8], at: usize, c: Curve) -> usize
     next
 }
 
-// Writes a curve where there is room for it, and hands back the place past it.
-pub fn write_curve(buf: &mut [u8], at: usize, c: Curve) -> usize
-    requires { ⌜ (Good c) × (at + length (curveBytes c) ≤ length (now buf)) ⌝ }
-    ensures { λ r. ⌜ Wrote (now (buf .entry)) at (curveBytes c) r (now (buf .exit)) ⌝ }
+// A curve that has a form.
+fn write_form(buf: &mut [u8], at: usize, c: Curve) -> usize
+    requires { ⌜ c .count ≤ 4 ⌝ }
+    ensures { λ r. ⌜ WroteIfRoom (now (buf .entry)) at (curveBytes c) r (now (buf .exit)) ⌝ }
 {
-    let power_at = put(buf, at, c.fastest.0);
-    let count_at = put(buf, power_at, c.power.0);
-    let runs_at = put(buf, count_at, c.count as u32);
+    let power_at = put(buf, at, c.fastest.0 as usize);
+    let count_at = put(buf, power_at, c.power.0 as usize);
+    let runs_at = put(buf, count_at, c.count);
     write_runs(buf, runs_at, c)
+}
+
+// Writes a curve's form at a place and hands back the place past it; without a form or without room it does nothing.
+pub fn write_curve(buf: &mut [u8], at: usize, c: Curve) -> usize
+    ensures { λ r. ⌜ WroteOrNothing (now (buf .entry)) at (curveBytes c) r (now (buf .exit)) ⌝ }
+{
+    if Curve::RUNS_MAX < c.count {
+        return at;
+    }
+    let needed = curve_size(c);
+    if buf.len() < needed {
+        return at;
+    }
+    if buf.len() - needed < at {
+        return at;
+    }
+    write_form(buf, at, c)
 }

@@ -1,41 +1,46 @@
-use Rattle.fields.proofs.CurveWriting.{fastest-room, power-room, count-room, runs-room, curve-wrote}
+use Rattle.fields.proofs.WritingLaws.{nothing-too-short, nothing-too-late, wrote-in-room}
+use Rattle.fields.proofs.CurveWriting.{curve-unwritten}
 use borrow.Author.Needs.{needs}
 use Rattle.fields.proofs.write_curve.Statement.{statement}
 use Rattle.fields.proofs.write_curve.Tie as tie
 use Rattle.fields.proofs.write_curve.Reads as reads
 use Rattle.fields.proofs.write_curve.Lts as lts
-use Rattle.fields.proofs.put.Reads as put-reads
-use Rattle.fields.proofs.write_runs.Reads as write-runs-reads
+use Rattle.fields.proofs.curve_size.Reads as curve-size-reads
+use Rattle.fields.proofs.write_form.Reads as write-form-reads
 
-put-requires : tie.Need-put-requires
-put-requires c κs = search (fastest-room)
+returns : tie.Need-returns
+returns c = search (curve-unwritten)
 
-put-requires-2 : tie.Need-put-requires-2
-put-requires-2 c κs = search (power-room)
+curve-size-requires : tie.Need-curve-size-requires
+curve-size-requires c κs = search needs
 
-cast-put : tie.Need-cast-put
-cast-put c = search needs
+returns-2 : tie.Need-returns-2
+returns-2 c = search (nothing-too-short)
 
-put-requires-3 : tie.Need-put-requires-3
-put-requires-3 c κs = search (count-room)
+sub-if3 : tie.Need-sub-if3
+sub-if3 c = search needs
 
-write-runs-requires : tie.Need-write-runs-requires
-write-runs-requires c κs = (search needs, runs-room _ _ _ (search needs) _ _ (c .before .before .before .before .before .before .before .before .before .before .before .before .put .ensures) _ _ (c .before .before .before .before .before .before .before .before .put2 .ensures) _ _ (c .before .before .before .put3 .ensures))
+returns-3 : tie.Need-returns-3
+returns-3 c = search (nothing-too-late)
+
+write-form-requires : tie.Need-write-form-requires
+write-form-requires c κs = search needs
 
 same-length : tie.Need-same-length
 same-length c = search needs
 
-returns : tie.Need-returns
-returns c = search (curve-wrote)
+returns-4 : tie.Need-returns-4
+returns-4 c = search (wrote-in-room)
 
 pub write-curve-spec : {M : Type 1} → statement M
 write-curve-spec =
     tie.close
     (tie.spec
-    put-requires
-    put-requires-2
-    cast-put
-    put-requires-3
-    write-runs-requires
+    returns
+    curve-size-requires
+    returns-2
+    sub-if3
+    returns-3
+    write-form-requires
     same-length
-    returns)
+    returns-4)
