@@ -1,37 +1,31 @@
 -- The ways of the file's writer.
 -- Assumes nothing.
-use mathlib.Core.Path.{_≡_, refl, ap, _∙_}
+use mathlib.Core.Path.{_≡_, refl, sym, ap, _∙_}
+use mathlib.Core.Bool.{Bool, true, false, not}
 use mathlib.Core.List.{List, _++_}
 use Prim.Native.Nat.{ℕ, _+_, _≤_, _<_}
 use native.Mathlib.Omega.{arith}
 use lib.ListN.{length, drop, length-append}
 use lib.Seq.{sets-eq}
-use borrow.Author.Tests.{lt-ltb, le-ltb}
+use borrow.Author.Tests.{not-true, not-false, lt-ltb, le-ltb}
 use Rattle.base.specs.Pick.{pick}
 use Rattle.base.proofs.Cases.{finished}
-use Rattle.refusal.specs.declared.Why.the-variants.{BufferShort}
+use Rattle.refusal.specs.declared.Why.{Why}
+use Rattle.refusal.specs.declared.Why.the-variants.{NoBoard, BufferShort}
 use Rattle.refusal.specs.declared.Answer.{Answer}
 use Rattle.refusal.specs.declared.Answer.the-variants.{Done, Refused}
 use Rattle.groups.specs.Number.{encode}
-use Rattle.curve.specs.Curve.{Good}
-use Rattle.fields.specs.Writing.{Wrote, inRow}
-use Rattle.fields.specs.CurveFile.{curveBytes}
-use Rattle.fields.proofs.WritingLaws.{wrote-more, first-room, then-room, row-room}
+use Rattle.fields.specs.Writing.{WroteIfRoom, WroteOrNothing, inRow}
+use Rattle.fields.proofs.WritingLaws.{room-more, room-or-nothing}
 use Rattle.board.specs.declared.Link.{Link}
 use Rattle.board.specs.declared.Board.{Board}
-use Rattle.board.specs.Board.{curveAt, linkAt, WellFormed}
+use Rattle.board.specs.Board.{WellFormed}
+use Rattle.board.specs.Tests.{Decides}
 use Rattle.design.specs.Design.{linkBytes, partsBytes, linksBytes, linkedBytes, bodyBytes, headBytes, fileOf}
-use Rattle.design_write.specs.Write.{writeOf, bufferOf}
+use Rattle.design_write.specs.Write.{writeOf, bufferOf, FileCounted, FileWritten}
 
--- ---- what a well-formed board has
-pub part-good : (b : Board) (p : ℕ) → WellFormed b → p < b .parts → Good (curveAt b p)
-part-good b p w h = w .curves p h
-
-pub from-below : (b : Board) (l : ℕ) → WellFormed b → l < b .links → linkAt b l .from < 64
-from-below b l w h = omega (arith, w .from-in l h, w .parts-to)
-
-pub to-below : (b : Board) (l : ℕ) → WellFormed b → l < b .links → linkAt b l .to < 64
-to-below b l w h = omega (arith, w .to-in l h, w .parts-to)
+never : (t : Bool) → t ≡ true → t ≡ false → ⊥
+never t e f = let z : _≡_ {A = ℕ} 0 1 = cc in omega arith
 
 -- ---- sizes
 pub link-counted : (link : Link) (f t : ℕ) → f ≡ length (encode (link .from)) → t ≡ length (encode (link .to)) → f + t ≡ length (linkBytes link)
@@ -61,59 +55,76 @@ file-counted b one deadline parts curves links row is-one is-deadline is-parts i
       length-append l r,
     )
 
--- ---- room for the next in a row
-module _ (b : Board) (buf₀ : List ℕ) (at i next : ℕ) (buf : List ℕ) where
-  pub part-room : Wrote buf₀ at (partsBytes b i) next buf → at + length (partsBytes b (b .parts)) ≤ length buf₀ → i < b .parts → next + length (curveBytes (curveAt b i)) ≤ length buf
-  unfolding partsBytes
-  part-room so-far room h = row-room (λ p. curveBytes (curveAt b p)) buf₀ at i next buf so-far (b .parts) room h
+-- ---- `design_size`
+module _ (b : Board) (t : Bool) (test : Decides t (WellFormed b)) where
+  pub formed : not t ≡ false → WellFormed b
+  formed is = test .yes (not-false t is)
 
-  pub link-room : Wrote buf₀ at (linksBytes b i) next buf → at + length (linksBytes b (b .links)) ≤ length buf₀ → i < b .links → next + length (linkBytes (linkAt b i)) ≤ length buf
-  unfolding linksBytes
-  link-room so-far room h = row-room (λ l. linkBytes (linkAt b l)) buf₀ at i next buf so-far (b .links) room h
+  pub counted : (r : ℕ) → not t ≡ false → r ≡ length (fileOf b) → FileCounted b r
+  counted r is size = record { formed = λ w. size; none = λ no. absurd (no (test .yes (not-false t is))) }
 
--- ---- `write_head`
-module _ (b : Board) (buf : List ℕ) (at : ℕ) (room : at + length (headBytes b) ≤ length buf) (m : ℕ) (buf₁ : List ℕ) (one : Wrote buf at (encode (b .deadline .0)) m buf₁) where
-  rest-room : m + length (encode (b .parts) ++ bodyBytes b) ≤ length buf₁
-  unfolding headBytes
-  rest-room = then-room buf at (encode (b .deadline .0)) (encode (b .parts) ++ bodyBytes b) m buf₁ room one
+  pub uncounted : not t ≡ true → FileCounted b 0
+  uncounted is = record { formed = λ w. absurd (never t (test .no w) (not-true t is)); none = λ no. refl }
 
-  pub count-room : m + length (encode (b .parts)) ≤ length buf₁
-  count-room = first-room buf₁ m (encode (b .parts)) (bodyBytes b) rest-room
+-- ---- writers one after the other
+-- a number, then what follows it
+pub then-written :
+    (buf : List ℕ) (at : ℕ) (v : List ℕ) (m : ℕ) (buf₁ : List ℕ) (w : List ℕ) (n : ℕ) (buf₂ : List ℕ) →
+    WroteOrNothing buf at v m buf₁ → WroteIfRoom buf₁ m w n buf₂ → WroteIfRoom buf at (v ++ w) n buf₂
+then-written buf at v m buf₁ w n buf₂ one two = room-more buf at v m buf₁ w n buf₂ (room-or-nothing buf at v m buf₁ one) two
 
-  pub body-room : (n : ℕ) (buf₂ : List ℕ) → Wrote buf₁ m (encode (b .parts)) n buf₂ → n + length (bodyBytes b) ≤ length buf₂
-  body-room n buf₂ two = then-room buf₁ m (encode (b .parts)) (bodyBytes b) n buf₂ rest-room two
+pub link-written :
+    (buf : List ℕ) (at : ℕ) (link : Link) (m : ℕ) (buf₁ : List ℕ) (n : ℕ) (buf₂ : List ℕ) →
+    WroteOrNothing buf at (encode (link .from)) m buf₁ → WroteOrNothing buf₁ m (encode (link .to)) n buf₂ → WroteIfRoom buf at (linkBytes link) n buf₂
+link-written buf at link m buf₁ n buf₂ one two = then-written buf at _ m buf₁ _ n buf₂ one (room-or-nothing buf₁ m _ n buf₂ two)
+
+pub head-written :
+    (b : Board) (buf : List ℕ) (at m : ℕ) (buf₁ : List ℕ) (n : ℕ) (buf₂ : List ℕ) (e : ℕ) (buf₃ : List ℕ) →
+    WroteOrNothing buf at (encode (b .deadline .0)) m buf₁ → WroteOrNothing buf₁ m (encode (b .parts)) n buf₂ → WroteIfRoom buf₂ n (bodyBytes b) e buf₃ →
+    WroteIfRoom buf at (headBytes b) e buf₃
+unfolding headBytes
+head-written b buf at m buf₁ n buf₂ e buf₃ one two three =
+    then-written buf at _ m buf₁ _ e buf₃ one (then-written buf₁ m _ n buf₂ _ e buf₃ two three)
 
 -- ---- `write_design`
-module _ (b : Board) (buf : List ℕ) (needed : ℕ) (is : needed ≡ length (fileOf b)) where
-  pub too-short : length buf < needed → Refused BufferShort needed ≡ writeOf b buf
-  unfolding writeOf pick
-  too-short h = rw (← is, lt-ltb (length buf) needed h)
+short-stays : (short : Bool) (buf full : List ℕ) (w why : Why) (q place : ℕ) → pick short (Refused w q) Done ≡ Refused why place → pick short buf full ≡ buf
+unfolding pick
+short-stays true buf full w why q place e = refl
+short-stays false buf full w why q place e = absurd (let z : _≡_ {A = ℕ} 0 1 = cc in omega arith)
 
-  pub untouched : length buf < needed → buf ≡ bufferOf b buf
-  unfolding bufferOf pick
-  untouched h = rw (← is, lt-ltb (length buf) needed h)
+write-stays : (b : Board) (buf : List ℕ) (why : Why) (place : ℕ) → writeOf b buf ≡ Refused why place → bufferOf b buf ≡ buf
+unfolding writeOf bufferOf
+write-stays b buf why place e = short-stays _ buf _ _ why _ place e
+
+pub refused : (b : Board) (t : Bool) (buf : List ℕ) → Decides t (WellFormed b) → not t ≡ true → FileWritten b buf (Refused NoBoard 0) buf
+refused b t buf test is = record { formed = λ w. absurd (never t (test .no w) (not-true t is)); none = λ no. (refl, refl); stays = λ why place e. refl }
+
+module _ (b : Board) (t : Bool) (test : Decides t (WellFormed b)) (is-formed : not t ≡ false) (buf : List ℕ) (needed : ℕ) (is : needed ≡ length (fileOf b)) where
+  for-formed : (r : Answer) (buf′ : List ℕ) → r ≡ writeOf b buf → buf′ ≡ bufferOf b buf → FileWritten b buf r buf′
+  for-formed r buf′ answer after = record { formed = λ w. (answer, after); none = λ no. absurd (no (test .yes (not-false t is-formed))); stays = λ why place e. after ∙ write-stays b buf why place (sym answer ∙ e) }
+
+  pub too-short : length buf < needed → FileWritten b buf (Refused BufferShort needed) buf
+  unfolding writeOf bufferOf pick
+  too-short h = for-formed _ buf (rw (← is, lt-ltb (length buf) needed h)) (rw (← is, lt-ltb (length buf) needed h))
 
   module _ (h : needed ≤ length buf) where
+    done : Done ≡ writeOf b buf
+    unfolding writeOf pick
+    done = rw (← is, le-ltb (length buf) needed h)
+
     file-room : 0 + length (encode 1 ++ headBytes b) ≤ length buf
     unfolding fileOf
     file-room = omega arith
 
-    pub version-room : 0 + length (encode 1) ≤ length buf
-    version-room = first-room buf 0 (encode 1) (headBytes b) file-room
-
-    pub done : Done ≡ writeOf b buf
-    unfolding writeOf pick
-    done = rw (← is, le-ltb (length buf) needed h)
-
-    module _ (next : ℕ) (buf₁ : List ℕ) (one : Wrote buf 0 (encode 1) next buf₁) where
-      pub head-room : next + length (headBytes b) ≤ length buf₁
-      head-room = then-room buf 0 (encode 1) (headBytes b) next buf₁ file-room one
-
-      pub filled : (n : ℕ) (buf₂ : List ℕ) → Wrote buf₁ next (headBytes b) n buf₂ → buf₂ ≡ bufferOf b buf
+    module _ (next : ℕ) (buf₁ : List ℕ) (one : WroteOrNothing buf 0 (encode 1) next buf₁) (n : ℕ) (buf₂ : List ℕ) (two : WroteIfRoom buf₁ next (headBytes b) n buf₂) where
+      filled : buf₂ ≡ bufferOf b buf
       unfolding bufferOf fileOf pick
-      filled n buf₂ two =
-          let all = wrote-more buf 0 (encode 1) next buf₁ (headBytes b) n buf₂ one two in
+      filled =
+          let all = then-written buf 0 (encode 1) next buf₁ (headBytes b) n buf₂ one two .wrote file-room in
           let long : needed ≡ length (encode 1 ++ headBytes b) = is in
           let past : 0 + length (encode 1 ++ headBytes b) ≡ needed = omega arith in
           rw (← long, le-ltb (length buf) needed h)
           (all .holds ∙ sets-eq (encode 1 ++ headBytes b) buf 0 file-room ∙ ap (λ (i : ℕ). (encode 1 ++ headBytes b) ++ drop i buf) past)
+
+      pub file-written : FileWritten b buf Done buf₂
+      file-written = for-formed Done buf₂ done filled

@@ -4,18 +4,17 @@ use board::Link;
 use refusal::Answer;
 use refusal::Why;
 ghost use mathlib.Core.Path.{_≡_};
-ghost use Prim.Native.Nat.{_≤_, _<_, _+_};
+ghost use Prim.Native.Nat.{_≤_};
 ghost use lib.ListN.{length};
-ghost use Rattle.fields.specs.Writing.{Wrote};
+ghost use Rattle.fields.specs.Writing.{WroteIfRoom};
 ghost use Rattle.board.specs.Board.{WellFormed};
 ghost use Rattle.design.specs.Design.{linkBytes, partsBytes, linksBytes, linkedBytes, bodyBytes, headBytes, fileOf};
-ghost use Rattle.design_write.specs.Write.{writeOf, bufferOf};
+ghost use Rattle.design_write.specs.Write.{FileCounted, FileWritten};
 
 fn link_size(link: Link) -> usize
-    requires { ⌜ (link .from < 64) × (link .to < 64) ⌝ }
     ensures { λ r. ⌜ (r ≡ length (linkBytes link)) × (r ≤ 6) ⌝ }
 {
-    fields::size(link.from as u32) + fields::size(link.to as u32)
+    fields::size(link.from) + fields::size(link.to)
 }
 
 fn links_size(b: Board) -> usize
@@ -35,7 +34,7 @@ fn links_size(b: Board) -> usize
 
 fn parts_size(b: Board) -> usize
     requires { ⌜ WellFormed b ⌝ }
-    ensures { λ r. ⌜ (r ≡ length (partsBytes b (b .parts))) × (r ≤ 1408) ⌝ }
+    ensures { λ r. ⌜ (r ≡ length (partsBytes b (b .parts))) × (r ≤ 2112) ⌝ }
 {
     let parts = b.parts;
     let mut bytes: usize = 0;
@@ -48,27 +47,35 @@ fn parts_size(b: Board) -> usize
     bytes
 }
 
-// The bytes of a board's file.
-pub fn design_size(b: Board) -> usize
+fn file_size(b: Board) -> usize
     requires { ⌜ WellFormed b ⌝ }
     ensures { λ r. ⌜ r ≡ length (fileOf b) ⌝ }
 {
-    let linked = fields::size(b.links as u32) + links_size(b);
+    let linked = fields::size(b.links) + links_size(b);
     let body = parts_size(b) + linked;
-    fields::size(1) + fields::size(b.deadline.0) + fields::size(b.parts as u32) + body
+    fields::size(1) + fields::size(b.deadline.0 as usize) + fields::size(b.parts) + body
+}
+
+// The bytes of a board's file; 0 for a value that is no well-formed board.
+pub fn design_size(b: Board) -> usize
+    ensures { λ r. ⌜ FileCounted b r ⌝ }
+{
+    if !board::well_formed(b) {
+        return 0;
+    }
+    file_size(b)
 }
 
 fn write_link(buf: &mut [u8], at: usize, link: Link) -> usize
-    requires { ⌜ (link .from < 64) × (link .to < 64) × (at + length (linkBytes link) ≤ length (now buf)) ⌝ }
-    ensures { λ r. ⌜ Wrote (now (buf .entry)) at (linkBytes link) r (now (buf .exit)) ⌝ }
+    ensures { λ r. ⌜ WroteIfRoom (now (buf .entry)) at (linkBytes link) r (now (buf .exit)) ⌝ }
 {
-    let next = fields::put(buf, at, link.from as u32);
-    fields::put(buf, next, link.to as u32)
+    let next = fields::put(buf, at, link.from);
+    fields::put(buf, next, link.to)
 }
 
 fn write_links(buf: &mut [u8], at: usize, b: Board) -> usize
-    requires { ⌜ (WellFormed b) × (at + length (linksBytes b (b .links)) ≤ length (now buf)) ⌝ }
-    ensures { λ r. ⌜ Wrote (now (buf .entry)) at (linksBytes b (b .links)) r (now (buf .exit)) ⌝ }
+    requires { ⌜ WellFormed b ⌝ }
+    ensures { λ r. ⌜ WroteIfRoom (now (buf .entry)) at (linksBytes b (b .links)) r (now (buf .exit)) ⌝ }
 {
     let links = b.links;
     let mut next = at;
@@ -82,8 +89,8 @@ fn write_links(buf: &mut [u8], at: usize, b: Board) -> usize
 }
 
 fn write_parts(buf: &mut [u8], at: usize, b: Board) -> usize
-    requires { ⌜ (WellFormed b) × (at + length (partsBytes b (b .parts)) ≤ length (now buf)) ⌝ }
-    ensures { λ r. ⌜ Wrote (now (buf .entry)) at (partsBytes b (b .parts)) r (now (buf .exit)) ⌝ }
+    requires { ⌜ WellFormed b ⌝ }
+    ensures { λ r. ⌜ WroteIfRoom (now (buf .entry)) at (partsBytes b (b .parts)) r (now (buf .exit)) ⌝ }
 {
     let parts = b.parts;
     let mut next = at;
@@ -97,36 +104,41 @@ fn write_parts(buf: &mut [u8], at: usize, b: Board) -> usize
 }
 
 fn write_linked(buf: &mut [u8], at: usize, b: Board) -> usize
-    requires { ⌜ (WellFormed b) × (at + length (linkedBytes b) ≤ length (now buf)) ⌝ }
-    ensures { λ r. ⌜ Wrote (now (buf .entry)) at (linkedBytes b) r (now (buf .exit)) ⌝ }
+    requires { ⌜ WellFormed b ⌝ }
+    ensures { λ r. ⌜ WroteIfRoom (now (buf .entry)) at (linkedBytes b) r (now (buf .exit)) ⌝ }
 {
-    let next = fields::put(buf, at, b.links as u32);
+    let next = fields::put(buf, at, b.links);
     write_links(buf, next, b)
 }
 
 fn write_body(buf: &mut [u8], at: usize, b: Board) -> usize
-    requires { ⌜ (WellFormed b) × (at + length (bodyBytes b) ≤ length (now buf)) ⌝ }
-    ensures { λ r. ⌜ Wrote (now (buf .entry)) at (bodyBytes b) r (now (buf .exit)) ⌝ }
+    requires { ⌜ WellFormed b ⌝ }
+    ensures { λ r. ⌜ WroteIfRoom (now (buf .entry)) at (bodyBytes b) r (now (buf .exit)) ⌝ }
 {
     let next = write_parts(buf, at, b);
     write_linked(buf, next, b)
 }
 
 fn write_head(buf: &mut [u8], at: usize, b: Board) -> usize
-    requires { ⌜ (WellFormed b) × (at + length (headBytes b) ≤ length (now buf)) ⌝ }
-    ensures { λ r. ⌜ Wrote (now (buf .entry)) at (headBytes b) r (now (buf .exit)) ⌝ }
+    requires { ⌜ WellFormed b ⌝ }
+    ensures { λ r. ⌜ WroteIfRoom (now (buf .entry)) at (headBytes b) r (now (buf .exit)) ⌝ }
 {
-    let parts_at = fields::put(buf, at, b.deadline.0);
-    let next = fields::put(buf, parts_at, b.parts as u32);
+    let parts_at = fields::put(buf, at, b.deadline.0 as usize);
+    let next = fields::put(buf, parts_at, b.parts);
     write_body(buf, next, b)
 }
 
-// Writes a board's file at the front of a buffer that has room for it.
+// Writes a board's file at the front of a buffer that has room for it. A value that is no well-formed board is refused as no board.
 pub fn write_design(b: Board, buf: &mut [u8]) -> Answer
-    requires { ⌜ WellFormed b ⌝ }
-    ensures { λ r. ⌜ (r ≡ writeOf b (now (buf .entry))) × (now (buf .exit) ≡ bufferOf b (now (buf .entry))) ⌝ }
+    ensures { λ r. ⌜ FileWritten b (now (buf .entry)) r (now (buf .exit)) ⌝ }
 {
-    let needed = design_size(b);
+    if !board::well_formed(b) {
+        return Answer::Refused {
+            why: Why::NoBoard,
+            place: 0,
+        };
+    }
+    let needed = file_size(b);
     if buf.len() < needed {
         return Answer::Refused {
             why: Why::BufferShort,

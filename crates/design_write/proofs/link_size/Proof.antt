@@ -6,14 +6,8 @@ use Rattle.design_write.proofs.link_size.Reads as reads
 use Rattle.design_write.proofs.link_size.Lts as lts
 use Rattle.fields.proofs.size.Reads as size-reads
 
-cast-size : tie.Need-cast-size
-cast-size c = search needs
-
 size-requires : tie.Need-size-requires
 size-requires c κs = search needs
-
-cast-size-2 : tie.Need-cast-size-2
-cast-size-2 c = search needs
 
 size-requires-2 : tie.Need-size-requires-2
 size-requires-2 c κs = search needs
@@ -25,5 +19,4 @@ returns : tie.Need-returns
 returns c = (search (link-counted), search needs)
 
 pub link-size-spec : {M : Type 1} → statement M
-link-size-spec =
-    tie.close (tie.spec cast-size size-requires cast-size-2 size-requires-2 add-result returns)
+link-size-spec = tie.close (tie.spec size-requires size-requires-2 add-result returns)

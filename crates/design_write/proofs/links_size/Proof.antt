@@ -3,7 +3,7 @@ use Prim.Native.Nat.{_≤_, _-_, _*_}
 use lib.ListN.{length}
 use Rattle.design.specs.Design.{linksBytes}
 use Rattle.fields.proofs.WritingLaws.{row-none, row-counted}
-use Rattle.design_write.proofs.Ways.{from-below, to-below, row-counted-all}
+use Rattle.design_write.proofs.Ways.{row-counted-all}
 use borrow.Author.Needs.{needs}
 use Rattle.design_write.proofs.links_size.Statement.{statement}
 use Rattle.design_write.proofs.links_size.Tie as tie
@@ -28,7 +28,7 @@ element-copy-out-link : tie.Need-element-copy-out-link Inv-loop μ-loop
 element-copy-out-link c = search needs
 
 link-size-requires : tie.Need-link-size-requires Inv-loop μ-loop
-link-size-requires c κs = (search (from-below), search (to-below))
+link-size-requires c κs = search needs
 
 add-bytes : tie.Need-add-bytes Inv-loop μ-loop
 add-bytes c = search needs

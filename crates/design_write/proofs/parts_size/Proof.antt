@@ -3,7 +3,7 @@ use Prim.Native.Nat.{_≤_, _-_, _*_}
 use lib.ListN.{length}
 use Rattle.design.specs.Design.{partsBytes}
 use Rattle.fields.proofs.WritingLaws.{row-none, row-counted}
-use Rattle.design_write.proofs.Ways.{part-good, row-counted-all}
+use Rattle.design_write.proofs.Ways.{row-counted-all}
 use borrow.Author.Needs.{needs}
 use Rattle.design_write.proofs.parts_size.Statement.{statement}
 use Rattle.design_write.proofs.parts_size.Tie as tie
@@ -12,7 +12,7 @@ use Rattle.design_write.proofs.parts_size.Lts as lts
 use Rattle.fields.proofs.curve_size.Reads as curve-size-reads
 
 abbrev Inv-loop : tie.InvT-loop
-Inv-loop b parts bytes₀ p₀ bytes p = (p ≤ parts) × (bytes ≡ length (partsBytes b p)) × (bytes ≤ 22 * p)
+Inv-loop b parts bytes₀ p₀ bytes p = (p ≤ parts) × (bytes ≡ length (partsBytes b p)) × (bytes ≤ 33 * p)
 
 abbrev μ-loop : tie.MeasureT-loop
 μ-loop b parts bytes₀ p₀ bytes p = parts - p
@@ -28,7 +28,7 @@ element-copy-out-c : tie.Need-element-copy-out-c Inv-loop μ-loop
 element-copy-out-c c = search needs
 
 curve-size-requires : tie.Need-curve-size-requires Inv-loop μ-loop
-curve-size-requires c κs = search (part-good)
+curve-size-requires c κs = search needs
 
 add-bytes : tie.Need-add-bytes Inv-loop μ-loop
 add-bytes c = search needs

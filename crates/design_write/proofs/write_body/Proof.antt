@@ -1,4 +1,4 @@
-use Rattle.fields.proofs.WritingLaws.{first-room, then-room, wrote-more}
+use Rattle.fields.proofs.WritingLaws.{room-more}
 use Rattle.design.specs.Design.{bodyBytes}
 use borrow.Author.Needs.{needs}
 use Rattle.design_write.proofs.write_body.Statement.{statement}
@@ -9,19 +9,17 @@ use Rattle.design_write.proofs.write_linked.Reads as write-linked-reads
 use Rattle.design_write.proofs.write_parts.Reads as write-parts-reads
 
 write-parts-requires : tie.Need-write-parts-requires
-unfolding bodyBytes
-write-parts-requires c κs = (search needs, search (first-room))
+write-parts-requires c κs = search needs
 
 write-linked-requires : tie.Need-write-linked-requires
-unfolding bodyBytes
-write-linked-requires c κs = (search needs, search (then-room))
+write-linked-requires c κs = search needs
 
 same-length : tie.Need-same-length
 same-length c = search needs
 
 returns : tie.Need-returns
 unfolding bodyBytes
-returns c = search (wrote-more)
+returns c = search (room-more)
 
 pub write-body-spec : {M : Type 1} → statement M
 write-body-spec =

@@ -1,4 +1,4 @@
-use Rattle.fields.proofs.WritingLaws.{wrote-more, first-room, then-room}
+use Rattle.design_write.proofs.Ways.{link-written}
 use borrow.Author.Needs.{needs}
 use Rattle.design_write.proofs.write_link.Statement.{statement}
 use Rattle.design_write.proofs.write_link.Tie as tie
@@ -6,24 +6,17 @@ use Rattle.design_write.proofs.write_link.Reads as reads
 use Rattle.design_write.proofs.write_link.Lts as lts
 use Rattle.fields.proofs.put.Reads as put-reads
 
-cast-put : tie.Need-cast-put
-cast-put c = search needs
-
 put-requires : tie.Need-put-requires
-put-requires c κs = search (first-room)
-
-cast-put-2 : tie.Need-cast-put-2
-cast-put-2 c = search needs
+put-requires c κs = search needs
 
 put-requires-2 : tie.Need-put-requires-2
-put-requires-2 c κs = search (then-room)
+put-requires-2 c κs = search needs
 
 same-length : tie.Need-same-length
 same-length c = search needs
 
 returns : tie.Need-returns
-returns c = search (wrote-more)
+returns c = search (link-written)
 
 pub write-link-spec : {M : Type 1} → statement M
-write-link-spec =
-    tie.close (tie.spec cast-put put-requires cast-put-2 put-requires-2 same-length returns)
+write-link-spec = tie.close (tie.spec put-requires put-requires-2 same-length returns)

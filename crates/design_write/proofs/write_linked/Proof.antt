@@ -1,4 +1,4 @@
-use Rattle.fields.proofs.WritingLaws.{first-room, then-room, wrote-more}
+use Rattle.design_write.proofs.Ways.{then-written}
 use Rattle.design.specs.Design.{linkedBytes}
 use borrow.Author.Needs.{needs}
 use Rattle.design_write.proofs.write_linked.Statement.{statement}
@@ -8,24 +8,18 @@ use Rattle.design_write.proofs.write_linked.Lts as lts
 use Rattle.design_write.proofs.write_links.Reads as write-links-reads
 use Rattle.fields.proofs.put.Reads as put-reads
 
-cast-put : tie.Need-cast-put
-cast-put c = search needs
-
 put-requires : tie.Need-put-requires
-unfolding linkedBytes
-put-requires c κs = search (first-room)
+put-requires c κs = search needs
 
 write-links-requires : tie.Need-write-links-requires
-unfolding linkedBytes
-write-links-requires c κs = (search needs, search (then-room))
+write-links-requires c κs = search needs
 
 same-length : tie.Need-same-length
 same-length c = search needs
 
 returns : tie.Need-returns
 unfolding linkedBytes
-returns c = search (wrote-more)
+returns c = search (then-written)
 
 pub write-linked-spec : {M : Type 1} → statement M
-write-linked-spec =
-    tie.close (tie.spec cast-put put-requires write-links-requires same-length returns)
+write-linked-spec = tie.close (tie.spec put-requires write-links-requires same-length returns)
