@@ -1,23 +1,19 @@
--- The ways of the writers: each change's bytes, their count, its numbers in their ranges, and room for each step.
+-- The ways of the writers: each change's bytes, their count, and one step after the other.
 -- Assumes nothing.
 use mathlib.Core.Path.{_≡_}
 use mathlib.Core.List.{List, _++_}
-use Prim.Native.Nat.{ℕ, _+_, _≤_}
+use Prim.Native.Nat.{ℕ, _+_}
 use native.Mathlib.Omega.{arith}
-use mir.Val.{Fits}
-use mir.Syntax.{w32, w64}
 use lib.ListN.{length, length-append}
 use Rattle.groups.specs.Number.{encode}
 use Rattle.curve.specs.declared.Ticks.{Ticks}
 use Rattle.curve.specs.declared.Curve.{Curve}
-use Rattle.curve.specs.Curve.{Good}
 use Rattle.fields.specs.CurveFile.{curveBytes}
-use Rattle.fields.specs.Writing.{Wrote}
-use Rattle.fields.proofs.WritingLaws.{wrote-more, first-room, then-room}
-use Rattle.fields.proofs.CurveFileLaws.{curve-size-le}
+use Rattle.fields.specs.Writing.{WroteIfRoom, WroteOrNothing}
+use Rattle.fields.proofs.WritingLaws.{room-more, room-or-nothing}
 use Rattle.orders.specs.declared.Change.the-variants.{Deadline, AddLink, RemoveLink, NewCurve}
 use Rattle.orders.specs.declared.Order.{Order}
-use Rattle.orders.specs.Order.{Ends, Orderly, orderBytes}
+use Rattle.orders.specs.Order.{orderBytes}
 
 -- ---- what stands for each change
 module _ (o : Order) where
@@ -37,11 +33,8 @@ module _ (o : Order) where
   unfolding orderBytes
   new-curve-bytes part e = rw e
 
-  -- room for an order, and an order written, by its bytes
-  pub order-room : (buf : List ℕ) (at : ℕ) (w : List ℕ) → at + length (orderBytes o) ≤ length buf → orderBytes o ≡ w → at + length w ≤ length buf
-  order-room buf at w room is = rw is at room
-
-  pub order-wrote : (buf : List ℕ) (at : ℕ) (w : List ℕ) (r : ℕ) (buf′ : List ℕ) → orderBytes o ≡ w → Wrote buf at w r buf′ → Wrote buf at (orderBytes o) r buf′
+  -- an order written and counted, by its bytes
+  pub order-wrote : (buf : List ℕ) (at : ℕ) (w : List ℕ) (r : ℕ) (buf′ : List ℕ) → orderBytes o ≡ w → WroteIfRoom buf at w r buf′ → WroteIfRoom buf at (orderBytes o) r buf′
   order-wrote buf at w r buf′ is wrote = rw is wrote
 
   pub order-counted : (w : List ℕ) (r : ℕ) → orderBytes o ≡ w → r ≡ length w → r ≡ length (orderBytes o)
@@ -53,43 +46,19 @@ two-counted v w a b first second = omega (arith, length-append v w)
 pub three-counted : (u v w : List ℕ) (a b c : ℕ) → a ≡ length u → b ≡ length v → c ≡ length w → a + b + c ≡ length (u ++ (v ++ w))
 three-counted u v w a b c first second third = omega (arith, length-append u (v ++ w), length-append v w)
 
--- ---- the numbers of an order in its ranges
-module _ (o : Order) (orderly : Orderly o) where
-  pub added-ends : (from to : ℕ) → o .change ≡ AddLink from to → Ends from to
-  unfolding Orderly
-  added-ends from to e = let known = rw e at orderly in known .0
+-- ---- what is written after a number
+pub then-wrote :
+    (buf : List ℕ) (at : ℕ) (v : List ℕ) (m : ℕ) (buf₁ : List ℕ) (w : List ℕ) (n : ℕ) (buf₂ : List ℕ) →
+    WroteOrNothing buf at v m buf₁ → WroteIfRoom buf₁ m w n buf₂ → WroteIfRoom buf at (v ++ w) n buf₂
+then-wrote buf at v m buf₁ w n buf₂ one two = room-more buf at v m buf₁ w n buf₂ (room-or-nothing buf at v m buf₁ one) two
 
-  pub removed-ends : (from to : ℕ) → o .change ≡ RemoveLink from to → Ends from to
-  unfolding Orderly
-  removed-ends from to e = let known = rw e at orderly in known .0
+pub both-wrote :
+    (buf : List ℕ) (at : ℕ) (v : List ℕ) (m : ℕ) (buf₁ : List ℕ) (w : List ℕ) (n : ℕ) (buf₂ : List ℕ) →
+    WroteOrNothing buf at v m buf₁ → WroteOrNothing buf₁ m w n buf₂ → WroteIfRoom buf at (v ++ w) n buf₂
+both-wrote buf at v m buf₁ w n buf₂ one two = then-wrote buf at v m buf₁ w n buf₂ one (room-or-nothing buf₁ m w n buf₂ two)
 
-  pub part-fits : (part : ℕ) → o .change ≡ NewCurve part → Fits w32 part
-  unfolding Orderly
-  part-fits part e = let known = rw e at orderly in omega (arith, known .0)
-
-  pub new-curve-good : (part : ℕ) → o .change ≡ NewCurve part → Good (o .curve)
-  unfolding Orderly
-  new-curve-good part e = let known = rw e at orderly in known .1
-
-  pub new-curve-fits : (part a b c : ℕ) → o .change ≡ NewCurve part → a ≤ 3 → b ≤ 3 → c ≡ length (curveBytes (o .curve)) → Fits w64 (a + b + c)
-  new-curve-fits part a b c e first second third = omega (arith, curve-size-le (o .curve) (new-curve-good part e))
-
--- ---- `write_new_curve`
-module _ (buf : List ℕ) (at part : ℕ) (c : Curve) (room : at + length (encode 4 ++ (encode part ++ curveBytes c)) ≤ length buf) where
-  pub kind-room : at + length (encode 4) ≤ length buf
-  kind-room = first-room buf at (encode 4) (encode part ++ curveBytes c) room
-
-  module _ (m₁ : ℕ) (buf₁ : List ℕ) (one : Wrote buf at (encode 4) m₁ buf₁) where
-    rest-room : m₁ + length (encode part ++ curveBytes c) ≤ length buf₁
-    rest-room = then-room buf at (encode 4) (encode part ++ curveBytes c) m₁ buf₁ room one
-
-    pub part-room : m₁ + length (encode part) ≤ length buf₁
-    part-room = first-room buf₁ m₁ (encode part) (curveBytes c) rest-room
-
-    module _ (m₂ : ℕ) (buf₂ : List ℕ) (two : Wrote buf₁ m₁ (encode part) m₂ buf₂) where
-      pub curve-room : m₂ + length (curveBytes c) ≤ length buf₂
-      curve-room = then-room buf₁ m₁ (encode part) (curveBytes c) m₂ buf₂ rest-room two
-
-      pub new-curve-wrote : (n : ℕ) (buf₃ : List ℕ) → Wrote buf₂ m₂ (curveBytes c) n buf₃ → Wrote buf at (encode 4 ++ (encode part ++ curveBytes c)) n buf₃
-      new-curve-wrote n buf₃ three =
-          wrote-more buf at (encode 4) m₁ buf₁ (encode part ++ curveBytes c) n buf₃ one (wrote-more buf₁ m₁ (encode part) m₂ buf₂ (curveBytes c) n buf₃ two three)
+pub new-curve-wrote :
+    (part : ℕ) (c : Curve) (buf : List ℕ) (at m₁ : ℕ) (buf₁ : List ℕ) (m₂ : ℕ) (buf₂ : List ℕ) (n : ℕ) (buf₃ : List ℕ) →
+    WroteOrNothing buf at (encode 4) m₁ buf₁ → WroteOrNothing buf₁ m₁ (encode part) m₂ buf₂ → WroteOrNothing buf₂ m₂ (curveBytes c) n buf₃ →
+    WroteIfRoom buf at (encode 4 ++ (encode part ++ curveBytes c)) n buf₃
+new-curve-wrote part c buf at m₁ buf₁ m₂ buf₂ n buf₃ one two three = then-wrote buf at _ m₁ buf₁ _ n buf₃ one (both-wrote buf₁ m₁ _ m₂ buf₂ _ n buf₃ two three)

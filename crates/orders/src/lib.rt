@@ -7,14 +7,12 @@ use refusal::Why;
 ghost use mathlib.Core.Path.{_≡_};
 ghost use mathlib.Core.Bool.{true, false};
 ghost use mathlib.Core.List.{_++_};
-ghost use Prim.Native.Nat.{_≤_, _+_};
 ghost use lib.ListN.{length};
 ghost use Rattle.groups.specs.Number.{encode};
-ghost use Rattle.curve.specs.Curve.{Good};
 ghost use Rattle.fields.specs.Parse.{stop};
 ghost use Rattle.fields.specs.CurveFile.{curveBytes};
-ghost use Rattle.fields.specs.Writing.{Wrote};
-ghost use Rattle.orders.specs.Order.{plainly, linkChange, deadlineFrom, linkFrom, newCurveFrom, kindFrom, orderOf, orderRead, Ends, Orderly, orderBytes};
+ghost use Rattle.fields.specs.Writing.{WroteIfRoom, WroteOrNothing};
+ghost use Rattle.orders.specs.Order.{plainly, linkChange, deadlineFrom, linkFrom, newCurveFrom, kindFrom, orderOf, orderRead, orderBytes};
 
 // What an order would change: its place, and for all but a curve what is to stand there.
 pub enum Change {
@@ -167,64 +165,71 @@ pub fn read_order(s: &[u8]) -> OrderRead
     }
 }
 
-fn link_size(kind: u32, from: usize, to: usize) -> usize
-    requires { ⌜ Ends from to ⌝ }
+fn link_size(kind: usize, from: usize, to: usize) -> usize
     ensures { λ r. ⌜ r ≡ length (encode kind ++ (encode from ++ encode to)) ⌝ }
 {
-    fields::size(kind) + fields::size(from as u32) + fields::size(to as u32)
+    fields::size(kind) + fields::size(from) + fields::size(to)
 }
 
-// The bytes that an order takes.
+// The bytes that an order takes; a number or a curve that has no form takes none.
 pub fn order_size(o: Order) -> usize
-    requires { ⌜ Orderly o ⌝ }
     ensures { λ r. ⌜ r ≡ length (orderBytes o) ⌝ }
 {
     let change = o.change;
     match change {
-        Change::Deadline { deadline } => fields::size(1) + fields::size(deadline.0),
+        Change::Deadline { deadline } => fields::size(1) + fields::size(deadline.0 as usize),
         Change::AddLink { from, to } => link_size(2, from, to),
         Change::RemoveLink { from, to } => link_size(3, from, to),
         Change::NewCurve { part } => {
-            fields::size(4) + fields::size(part as u32) + fields::curve_size(o.curve)
+            fields::size(4) + fields::size(part) + fields::curve_size(o.curve)
         }
     }
 }
 
-fn write_two(buf: &mut [u8], at: usize, first: u32, second: u32) -> usize
-    requires { ⌜ at + length (encode first ++ encode second) ≤ length (now buf) ⌝ }
-    ensures { λ r. ⌜ Wrote (now (buf .entry)) at (encode first ++ encode second) r (now (buf .exit)) ⌝ }
+fn write_two(buf: &mut [u8], at: usize, first: usize, second: usize) -> usize
+    ensures { λ r. ⌜ WroteIfRoom (now (buf .entry)) at (encode first ++ encode second) r (now (buf .exit)) ⌝ }
 {
     let next = fields::put(buf, at, first);
     fields::put(buf, next, second)
 }
 
-fn write_link(buf: &mut [u8], at: usize, kind: u32, from: usize, to: usize) -> usize
-    requires { ⌜ (Ends from to) × (at + length (encode kind ++ (encode from ++ encode to)) ≤ length (now buf)) ⌝ }
-    ensures { λ r. ⌜ Wrote (now (buf .entry)) at (encode kind ++ (encode from ++ encode to)) r (now (buf .exit)) ⌝ }
+fn write_link(buf: &mut [u8], at: usize, kind: usize, from: usize, to: usize) -> usize
+    ensures { λ r. ⌜ WroteIfRoom (now (buf .entry)) at (encode kind ++ (encode from ++ encode to)) r (now (buf .exit)) ⌝ }
 {
     let next = fields::put(buf, at, kind);
-    write_two(buf, next, from as u32, to as u32)
+    write_two(buf, next, from, to)
 }
 
-fn write_new_curve(buf: &mut [u8], at: usize, part: u32, c: Curve) -> usize
-    requires { ⌜ (Good c) × (at + length (encode 4 ++ (encode part ++ curveBytes c)) ≤ length (now buf)) ⌝ }
-    ensures { λ r. ⌜ Wrote (now (buf .entry)) at (encode 4 ++ (encode part ++ curveBytes c)) r (now (buf .exit)) ⌝ }
+fn write_new_curve(buf: &mut [u8], at: usize, part: usize, c: Curve) -> usize
+    ensures { λ r. ⌜ WroteIfRoom (now (buf .entry)) at (encode 4 ++ (encode part ++ curveBytes c)) r (now (buf .exit)) ⌝ }
 {
     let part_at = fields::put(buf, at, 4);
     let curve_at = fields::put(buf, part_at, part);
     fields::write_curve(buf, curve_at, c)
 }
 
-// Writes an order where there is room for it, and hands back the place past it.
-pub fn write_order(buf: &mut [u8], at: usize, o: Order) -> usize
-    requires { ⌜ (Orderly o) × (at + length (orderBytes o) ≤ length (now buf)) ⌝ }
-    ensures { λ r. ⌜ Wrote (now (buf .entry)) at (orderBytes o) r (now (buf .exit)) ⌝ }
+fn write_kind(buf: &mut [u8], at: usize, o: Order) -> usize
+    ensures { λ r. ⌜ WroteIfRoom (now (buf .entry)) at (orderBytes o) r (now (buf .exit)) ⌝ }
 {
     let change = o.change;
     match change {
-        Change::Deadline { deadline } => write_two(buf, at, 1, deadline.0),
+        Change::Deadline { deadline } => write_two(buf, at, 1, deadline.0 as usize),
         Change::AddLink { from, to } => write_link(buf, at, 2, from, to),
         Change::RemoveLink { from, to } => write_link(buf, at, 3, from, to),
-        Change::NewCurve { part } => write_new_curve(buf, at, part as u32, o.curve),
+        Change::NewCurve { part } => write_new_curve(buf, at, part, o.curve),
     }
+}
+
+// Writes an order at a place and hands back the place past it; without room it does nothing.
+pub fn write_order(buf: &mut [u8], at: usize, o: Order) -> usize
+    ensures { λ r. ⌜ WroteOrNothing (now (buf .entry)) at (orderBytes o) r (now (buf .exit)) ⌝ }
+{
+    let needed = order_size(o);
+    if buf.len() < needed {
+        return at;
+    }
+    if buf.len() - needed < at {
+        return at;
+    }
+    write_kind(buf, at, o)
 }

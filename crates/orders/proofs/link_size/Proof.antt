@@ -10,10 +10,6 @@ use Rattle.fields.proofs.size.Reads as size-reads
 size-requires : tie.Need-size-requires
 size-requires c κs = search needs
 
--- src/lib.rt:174:39
-cast-size : tie.Need-cast-size
-cast-size c = search needs
-
 -- src/lib.rt:174:26
 size-requires-2 : tie.Need-size-requires-2
 size-requires-2 c κs = search needs
@@ -21,10 +17,6 @@ size-requires-2 c κs = search needs
 -- src/lib.rt:174:5
 add-result : tie.Need-add-result
 add-result c = search needs
-
--- src/lib.rt:174:67
-cast-size-2 : tie.Need-cast-size-2
-cast-size-2 c = search needs
 
 -- src/lib.rt:174:54
 size-requires-3 : tie.Need-size-requires-3
@@ -43,10 +35,8 @@ link-size-spec =
     tie.close
     (tie.spec
     size-requires
-    cast-size
     size-requires-2
     add-result
-    cast-size-2
     size-requires-3
     add-result-2
     returns)

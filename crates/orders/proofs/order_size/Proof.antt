@@ -1,4 +1,4 @@
-use Rattle.orders.proofs.Writers.{deadline-bytes, added-bytes, removed-bytes, new-curve-bytes, order-counted, two-counted, three-counted, added-ends, removed-ends, part-fits, new-curve-good, new-curve-fits}
+use Rattle.orders.proofs.Writers.{deadline-bytes, added-bytes, removed-bytes, new-curve-bytes, order-counted, two-counted, three-counted}
 use borrow.Author.Needs.{needs}
 use Rattle.orders.proofs.order_size.Statement.{statement}
 use Rattle.orders.proofs.order_size.Tie as tie
@@ -30,7 +30,7 @@ enum-known-change-2 c = search needs
 
 -- src/lib.rt:185:41
 link-size-requires : tie.Need-link-size-requires
-link-size-requires c κs = search (added-ends)
+link-size-requires c κs = search needs
 
 -- src/lib.rt:186:30
 enum-known-change-3 : tie.Need-enum-known-change-3
@@ -38,7 +38,7 @@ enum-known-change-3 c = search needs
 
 -- src/lib.rt:186:44
 link-size-requires-2 : tie.Need-link-size-requires-2
-link-size-requires-2 c κs = search (removed-ends)
+link-size-requires-2 c κs = search needs
 
 -- src/lib.rt:187:28
 enum-known-change-4 : tie.Need-enum-known-change-4
@@ -50,7 +50,7 @@ size-requires-3 c κs = search needs
 
 -- src/lib.rt:188:44
 cast-size : tie.Need-cast-size
-cast-size c = search (part-fits)
+cast-size c = search needs
 
 -- src/lib.rt:188:31
 size-requires-4 : tie.Need-size-requires-4
@@ -62,11 +62,11 @@ add-result-2 c = search needs
 
 -- src/lib.rt:188:59
 curve-size-requires : tie.Need-curve-size-requires
-curve-size-requires c κs = search (new-curve-good)
+curve-size-requires c κs = search needs
 
 -- src/lib.rt:188:13
 add-result-3 : tie.Need-add-result-3
-add-result-3 c = search (new-curve-fits)
+add-result-3 c = search needs
 
 -- src/lib.rt:178:1
 returns : tie.Need-returns
@@ -90,6 +90,7 @@ order-size-spec =
     (tie.spec
     enum-known-change
     size-requires
+    cast-size
     size-requires-2
     add-result
     enum-known-change-2
@@ -98,7 +99,6 @@ order-size-spec =
     link-size-requires-2
     enum-known-change-4
     size-requires-3
-    cast-size
     size-requires-4
     add-result-2
     curve-size-requires

@@ -1,4 +1,4 @@
-use Rattle.fields.proofs.WritingLaws.{wrote-more, first-room, then-room}
+use Rattle.orders.proofs.Writers.{then-wrote}
 use borrow.Author.Needs.{needs}
 use Rattle.orders.proofs.write_link.Statement.{statement}
 use Rattle.orders.proofs.write_link.Tie as tie
@@ -9,19 +9,11 @@ use Rattle.orders.proofs.write_two.Reads as write-two-reads
 
 -- src/lib.rt:205:9
 put-requires : tie.Need-put-requires
-put-requires c κs = search (first-room)
-
--- src/lib.rt:206:26
-cast-write-two : tie.Need-cast-write-two
-cast-write-two c = search needs
-
--- src/lib.rt:206:39
-cast-write-two-2 : tie.Need-cast-write-two-2
-cast-write-two-2 c = search needs
+put-requires c κs = search needs
 
 -- src/lib.rt:206:5
 write-two-requires : tie.Need-write-two-requires
-write-two-requires c κs = search (then-room)
+write-two-requires c κs = search needs
 
 -- src/lib.rt:201:1
 same-length : tie.Need-same-length
@@ -29,9 +21,9 @@ same-length c = search needs
 
 -- src/lib.rt:201:1
 returns : tie.Need-returns
-returns c = search (wrote-more)
+returns c = search (then-wrote)
 
 pub write-link-spec : {M : Type 1} → statement M
 write-link-spec =
     tie.close
-    (tie.spec put-requires cast-write-two cast-write-two-2 write-two-requires same-length returns)
+    (tie.spec put-requires write-two-requires same-length returns)

@@ -1,4 +1,4 @@
-use Rattle.orders.proofs.Writers.{kind-room, part-room, curve-room, new-curve-wrote}
+use Rattle.orders.proofs.Writers.{new-curve-wrote}
 use borrow.Author.Needs.{needs}
 use Rattle.orders.proofs.write_new_curve.Statement.{statement}
 use Rattle.orders.proofs.write_new_curve.Tie as tie
@@ -9,15 +9,15 @@ use Rattle.fields.proofs.write_curve.Reads as write-curve-reads
 
 -- src/lib.rt:213:9
 put-requires : tie.Need-put-requires
-put-requires c κs = search (kind-room)
+put-requires c κs = search needs
 
 -- src/lib.rt:214:9
 put-requires-2 : tie.Need-put-requires-2
-put-requires-2 c κs = search (part-room)
+put-requires-2 c κs = search needs
 
 -- src/lib.rt:215:5
 write-curve-requires : tie.Need-write-curve-requires
-write-curve-requires c κs = (search needs, search (curve-room))
+write-curve-requires c κs = search needs
 
 -- src/lib.rt:209:1
 same-length : tie.Need-same-length

@@ -1,99 +1,41 @@
-use Rattle.orders.proofs.Writers.{deadline-bytes, added-bytes, removed-bytes, new-curve-bytes, order-room, order-wrote, added-ends, removed-ends, part-fits, new-curve-good}
+use Rattle.fields.proofs.WritingLaws.{nothing-too-short, nothing-too-late, wrote-in-room}
 use borrow.Author.Needs.{needs}
 use Rattle.orders.proofs.write_order.Statement.{statement}
 use Rattle.orders.proofs.write_order.Tie as tie
 use Rattle.orders.proofs.write_order.Reads as reads
 use Rattle.orders.proofs.write_order.Lts as lts
-use Rattle.orders.proofs.write_link.Reads as write-link-reads
-use Rattle.orders.proofs.write_new_curve.Reads as write-new-curve-reads
-use Rattle.orders.proofs.write_two.Reads as write-two-reads
+use Rattle.orders.proofs.order_size.Reads as order-size-reads
+use Rattle.orders.proofs.write_kind.Reads as write-kind-reads
 
--- src/lib.rt:225:28
-enum-known-change : tie.Need-enum-known-change
-enum-known-change c = search needs
+order-size-requires : tie.Need-order-size-requires
+order-size-requires c κs = search needs
 
--- src/lib.rt:225:42
-write-two-requires : tie.Need-write-two-requires
-write-two-requires c κs = search (order-room, deadline-bytes)
+returns : tie.Need-returns
+returns c = search (nothing-too-short)
 
--- src/lib.rt:226:27
-enum-known-change-2 : tie.Need-enum-known-change-2
-enum-known-change-2 c = search needs
+sub-if2 : tie.Need-sub-if2
+sub-if2 c = search needs
 
--- src/lib.rt:226:41
-write-link-requires : tie.Need-write-link-requires
-write-link-requires c κs = (search (added-ends), search (order-room, added-bytes))
+returns-2 : tie.Need-returns-2
+returns-2 c = search (nothing-too-late)
 
--- src/lib.rt:227:30
-enum-known-change-3 : tie.Need-enum-known-change-3
-enum-known-change-3 c = search needs
+write-kind-requires : tie.Need-write-kind-requires
+write-kind-requires c κs = search needs
 
--- src/lib.rt:227:44
-write-link-requires-2 : tie.Need-write-link-requires-2
-write-link-requires-2 c κs = (search (removed-ends), search (order-room, removed-bytes))
-
--- src/lib.rt:228:28
-enum-known-change-4 : tie.Need-enum-known-change-4
-enum-known-change-4 c = search needs
-
--- src/lib.rt:228:63
-cast-write-new-curve : tie.Need-cast-write-new-curve
-cast-write-new-curve c = search (part-fits)
-
--- src/lib.rt:228:38
-write-new-curve-requires : tie.Need-write-new-curve-requires
-write-new-curve-requires c κs = (search (new-curve-good), search (order-room, new-curve-bytes))
-
--- src/lib.rt:219:1
 same-length : tie.Need-same-length
 same-length c = search needs
 
--- src/lib.rt:219:1
-returns : tie.Need-returns
-returns c = search (order-wrote, deadline-bytes)
-
--- src/lib.rt:219:1
-same-length-2 : tie.Need-same-length-2
-same-length-2 c = search needs
-
--- src/lib.rt:219:1
-returns-2 : tie.Need-returns-2
-returns-2 c = search (order-wrote, added-bytes)
-
--- src/lib.rt:219:1
-same-length-3 : tie.Need-same-length-3
-same-length-3 c = search needs
-
--- src/lib.rt:219:1
 returns-3 : tie.Need-returns-3
-returns-3 c = search (order-wrote, removed-bytes)
-
--- src/lib.rt:219:1
-same-length-4 : tie.Need-same-length-4
-same-length-4 c = search needs
-
--- src/lib.rt:219:1
-returns-4 : tie.Need-returns-4
-returns-4 c = search (order-wrote, new-curve-bytes)
+returns-3 c = search (wrote-in-room)
 
 pub write-order-spec : {M : Type 1} → statement M
 write-order-spec =
     tie.close
     (tie.spec
-    enum-known-change
-    write-two-requires
-    enum-known-change-2
-    write-link-requires
-    enum-known-change-3
-    write-link-requires-2
-    enum-known-change-4
-    cast-write-new-curve
-    write-new-curve-requires
-    same-length
+    order-size-requires
     returns
-    same-length-2
+    sub-if2
     returns-2
-    same-length-3
-    returns-3
-    same-length-4
-    returns-4)
+    write-kind-requires
+    same-length
+    returns-3)
