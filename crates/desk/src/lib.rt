@@ -447,7 +447,7 @@ pub fn order(d: Desk, bytes: &[u8], t: Tally) -> Ordered
 pub fn write(d: Desk, buf: &mut [u8]) -> Answer
     ensures { λ r. ⌜ WriteGiven d (now (buf .entry)) r (now (buf .exit)) ⌝ }
 {
-    if !holds_board(d) {
+    if !d.held {
         return no(Why::NoBoard, 0);
     }
     let b = d.board;

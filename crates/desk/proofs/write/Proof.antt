@@ -1,16 +1,11 @@
-use Rattle.desk.proofs.Writing.{write-formed, write-none, write-file}
+use Rattle.desk.proofs.Writing.{write-none, write-file}
 use borrow.Author.Needs.{needs}
 use Rattle.desk.proofs.write.Statement.{statement}
 use Rattle.desk.proofs.write.Tie as tie
 use Rattle.desk.proofs.write.Reads as reads
 use Rattle.desk.proofs.write.Lts as lts
 use Rattle.design_write.proofs.write_design.Reads as write-design-reads
-use Rattle.desk.proofs.holds_board.Reads as holds-board-reads
 use Rattle.desk.proofs.no.Reads as no-reads
-
--- src/lib.rt:448:9
-holds-board-requires : tie.Need-holds-board-requires
-holds-board-requires c κs = search needs
 
 -- src/lib.rt:449:9
 no-requires : tie.Need-no-requires
@@ -22,7 +17,7 @@ returns c = search (write-none)
 
 -- src/lib.rt:452:5
 write-design-requires : tie.Need-write-design-requires
-write-design-requires c κs = search (write-formed)
+write-design-requires c κs = search needs
 
 -- src/lib.rt:445:1
 same-length : tie.Need-same-length
@@ -35,4 +30,4 @@ returns-2 c = search (write-file)
 pub write-spec : {M : Type 1} → statement M
 write-spec =
     tie.close
-    (tie.spec holds-board-requires no-requires returns write-design-requires same-length returns-2)
+    (tie.spec no-requires returns write-design-requires same-length returns-2)
