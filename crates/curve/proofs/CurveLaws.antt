@@ -5,7 +5,6 @@ use mathlib.Core.Logic.{⊎-elim}
 use mathlib.Core.List.{List}
 use Prim.Native.Nat.{ℕ, zero, suc, _+_, _*_, _-_, _≤_, _<_, min}
 use native.Mathlib.Decide.{decLt}
-use native.Mathlib.Nat.{mul-le-mul}
 use native.Mathlib.Omega.{arith}
 use lib.ListN.{length, List·getD-eq-default, getD-replicate}
 use lib.Seq.{ext-getD}
@@ -24,7 +23,6 @@ use Rattle.curve.specs.declared.Curve.{Curve}
 use Rattle.curve.specs.Curve.{noRun, runAt, lengthAt, savingAt, ticksOf, slowestOf, savingOf, savingsOf, powerOf, Good}
 use Rattle.curve.specs.declared.Power.the-variants.{At}
 use Rattle.curve.specs.Answers.{flatOf, offCurve, powerAtOf}
-use Rattle.curve.specs.Tests.{Sized}
 
 -- what a tick of the first r runs saves is what one of these runs does
 pub tick-one : (long saved : ℕ → ℕ) (P : ℕ → Type 0) (r j : ℕ) → ((i : ℕ) → i < r → P (saved i)) → j < before long saved r → P (tick long saved r j)
@@ -37,6 +35,18 @@ tick-one long saved P (suc r) j h l =
           let past : before long saved r ≤ j = omega arith in
           rw (le-ltb j (before long saved r) past, lt-ltb j (before long saved (suc r)) l) (h r (omega arith))
     ]
+
+-- a sum of what is 0 from place 4 on
+sum-held : (f : ℕ → ℕ) (n : ℕ) → ((i : ℕ) → 4 ≤ i → f i ≡ 0) → sum (min n 4) f ≡ sum n f
+sum-held f n none =
+    ⊎-elim
+    (λ h.
+    let m : ℕ = n - 4 in
+    let most : n ≡ 4 + m = omega arith in
+    let four : min n 4 ≡ 4 = omega arith in
+    rw four (rw most (sym (sum-split f 4 m ∙ omega (arith, sum-ext m {f = λ i. f (4 + i)} {g = λ i. 0} (λ i l. none (4 + i) (omega arith)), sum-zero m)))))
+    (λ h. let all : min n 4 ≡ n = omega arith in rw all)
+    (lt-or-le 4 n)
 
 -- ---- of every curve
 module _ (c : Curve) where
@@ -52,22 +62,18 @@ module _ (c : Curve) where
   pub saves-le : (t : ℕ) → saves (savingOf c) t ≤ savingsOf c
   saves-le t = omega (arith, savings-saves, saves-most (savingOf c) (ticksOf c) saving-past t)
 
-  -- the runs that there is room for have all the ticks
-  pub ticks-held : length (c .runs) ≡ 4 → sum (min (c .count) 4) (lengthAt c) ≡ ticksOf c
-  unfolding ticksOf lengthAt
-  ticks-held room =
-      ⊎-elim
-      (λ h.
-      let m : ℕ = c .count - 4 in
-      let most : c .count ≡ 4 + m = omega arith in
-      let four : min (c .count) 4 ≡ 4 = omega arith in
-      rw four (rw most (sym (sum-split (lengthAt c) 4 m ∙ omega (
-        arith,
-        sum-ext m {f = λ i. lengthAt c (4 + i)} {g = λ i. 0} (λ i l. ap (λ (r : Run). r .length .0) (List·getD-eq-default (c .runs) noRun (omega arith))),
-        sum-zero m,
-      )))))
-      (λ h. let all : min (c .count) 4 ≡ c .count = omega arith in rw all)
-      (lt-or-le 4 (c .count))
+  -- the runs that there is room for have all the ticks, and save all that is saved
+  module _ (room : length (c .runs) ≡ 4) where
+    blank-past : (i : ℕ) → 4 ≤ i → runAt c i ≡ noRun
+    blank-past i h = List·getD-eq-default (c .runs) noRun (omega arith)
+
+    pub ticks-held : sum (min (c .count) 4) (lengthAt c) ≡ ticksOf c
+    unfolding ticksOf lengthAt
+    ticks-held = sum-held (lengthAt c) (c .count) (λ i h. ap (λ (r : Run). r .length .0) (blank-past i h))
+
+    pub savings-held : sum (min (c .count) 4) (λ i. lengthAt c i * savingAt c i) ≡ savingsOf c
+    unfolding savingsOf lengthAt savingAt
+    savings-held = sum-held (λ i. lengthAt c i * savingAt c i) (c .count) (λ i h. ap (λ (r : Run). r .length .0 * r .saving .0) (blank-past i h))
 
   -- ---- the power at a delay below the fastest, past the slowest, and from the one to the other
   pub power-at-below : (d : ℕ) → d < c .fastest .0 → powerAtOf c d ≡ offCurve d
@@ -89,26 +95,12 @@ module _ (c : Curve) where
   unfolding powerOf
   power-used t = let used : c .fastest .0 + t - c .fastest .0 ≡ t = omega arith in rw used
 
--- ---- bounds, run by run
+-- ---- a bound, run by run
 pub lengths-to : (c : Curve) → ((i : ℕ) → i < c .count → lengthAt c i ≤ 255) → (k : ℕ) → k ≤ c .count → sum k (lengthAt c) ≤ 255 * k
 lengths-to c to k h = omega (arith, sum-le k {f = lengthAt c} {g = λ i. 255} (λ i l. to i (omega arith)), sum-const k 255)
 
-pub run-savings-to : (c : Curve) → Sized c → (i : ℕ) → i < c .count → lengthAt c i * savingAt c i ≤ 255000
-run-savings-to c sized i h = mul-le-mul (sized .length-to i h) (sized .saving-to i h)
-
-pub savings-up-to : (c : Curve) → Sized c → (k : ℕ) → k ≤ c .count → sum k (λ i. lengthAt c i * savingAt c i) ≤ 255000 * k
-savings-up-to c sized k h =
-    omega (
-      arith,
-      sum-le k {f = λ i. lengthAt c i * savingAt c i} {g = λ i. 255000} (λ i l. run-savings-to c sized i (omega arith)),
-      sum-const k 255000,
-    )
-
 -- ---- of good curves
 module _ (c : Curve) (good : Good c) where
-  pub good-sized : Sized c
-  good-sized = record { count-to = good .count-to; length-to = good .length-to; saving-to = good .saving-to }
-
   pub ticks-to : ticksOf c ≤ 1020
   unfolding ticksOf
   ticks-to = omega (arith, lengths-to c (good .length-to) (c .count) (omega arith), good .count-to)
@@ -116,10 +108,6 @@ module _ (c : Curve) (good : Good c) where
   pub slowest-to : slowestOf c ≤ 2043
   unfolding slowestOf
   slowest-to = omega (arith, ticks-to, good .fastest-to)
-
-  pub savings-to : savingsOf c ≤ 1020000
-  unfolding savingsOf
-  savings-to = omega (arith, savings-up-to c good-sized (c .count) (omega arith), good .count-to)
 
   pub saving-falls : Falling (savingOf c)
   unfolding savingOf

@@ -15,7 +15,7 @@ use Rattle.theory.proofs.SumLaws.{below-suc}
 use Rattle.curve.specs.declared.Run.{Run}
 use Rattle.curve.specs.declared.Curve.{Curve}
 use Rattle.curve.specs.Curve.{noRun, runAt, lengthAt, savingAt, Good}
-use Rattle.curve.specs.Tests.{both, every, blankb, rangedb, placeb, goodb, Sized}
+use Rattle.curve.specs.Tests.{both, every, blankb, rangedb, placeb, goodb}
 
 -- ---- both of two tests, and a test at every number below n
 both-left : (a b : Bool) → both a b ≡ true → a ≡ true
@@ -130,10 +130,6 @@ module _ (c : Curve) where
 
     ranged-at : (i : ℕ) → i < c .count → Ranged (runAt c i)
     ranged-at i h = rangedb-ranged (runAt c i) (both-left _ _ (at-run i h))
-
-    pub places-sized : Sized c
-    unfolding lengthAt savingAt
-    places-sized = record { count-to = few; length-to = λ i h. ranged-at i h .length-to; saving-to = λ i h. ranged-at i h .saving-to }
 
   place-good : Good c → (i : ℕ) → i < 4 → placeb c i ≡ true
   unfolding lengthAt savingAt

@@ -11,15 +11,16 @@ use native.Mathlib.Numerals.{add-one}
 use lib.Dec.{ltb, leb}
 use mathlib.Core.List.{List, map}
 use lib.ListN.{length, length-map}
-use mir.Syntax.{w32, w64}
+use mir.Syntax.{w64}
 use mir.Val.{Fits}
 use borrow.Author.Tests.{not-true, not-false, le-leb, lt-leb, eq-eqb, ne-eqb}
 use Rattle.base.specs.Pick.{pick}
 use Rattle.base.proofs.Cases.{lt-or-le, finished}
 use Rattle.theory.specs.Sum.{sum}
 use Rattle.theory.specs.Saving.{saves}
-use Rattle.theory.proofs.SumLaws.{sum-next}
+use Rattle.theory.proofs.SumLaws.{sum-next, sum-mono}
 use Rattle.theory.proofs.RunLaws.{tick-run, saves-run}
+use Rattle.curve.specs.declared.Ticks.{Ticks}
 use Rattle.curve.specs.declared.Microwatts.{Microwatts}
 use Rattle.curve.specs.declared.Run.{Run}
 use Rattle.curve.specs.declared.Curve.{Curve}
@@ -27,11 +28,11 @@ use Rattle.curve.specs.declared.Slowing.{Slowing}
 use Rattle.curve.specs.declared.Power.{Power}
 use Rattle.curve.specs.declared.Power.the-variants.{At}
 use Rattle.curve.specs.declared.Last.the-variants.{Saving, Unused}
-use Rattle.curve.specs.Curve.{runAt, lengthAt, savingAt, ticksOf, slowestOf, savingOf, savingsOf, powerOf, Good}
+use Rattle.curve.specs.Curve.{runAt, lengthAt, savingAt, ticksOf, slowestOf, savingOf, savingsOf, powerOf}
 use Rattle.curve.specs.Answers.{nextSavingOf, lastSavingOf, offCurve, powerAtOf, usedOf}
-use Rattle.curve.specs.Tests.{Sized, both, every, blankb, rangedb, placeb, goodb}
-use Rattle.curve.proofs.CurveLaws.{lengths-to, run-savings-to, savings-up-to, ticks-held, saving-past, power-at-below, power-at-past, power-at-on}
-use Rattle.curve.proofs.GoodLaws.{every-fails, places-sized}
+use Rattle.curve.specs.Tests.{both, every, blankb, rangedb, placeb, goodb}
+use Rattle.curve.proofs.CurveLaws.{ticks-held, savings-held, saving-past, power-at-below, power-at-past, power-at-on}
+use Rattle.curve.proofs.GoodLaws.{every-fails}
 
 -- the product of two numbers of 32 bits has 64
 pub product-fits : (a b : ℕ) → a < 2 ^ 32 → b < 2 ^ 32 → Fits w64 (a * b)
@@ -54,50 +55,55 @@ module _ (c : Curve) where
   run-saving k = refl
 
   -- ---- slowest
-  -- the delay after k runs
+  -- the delay after k runs, before what passes its type is cut off
   abbrev pub slowTo : ℕ → ℕ
   slowTo k = c .fastest .0 + sum k (lengthAt c)
 
-  pub slow-none : c .fastest .0 ≡ slowTo 0
+  pub slow-none : c .fastest .0 < 2 ^ 32 → c .fastest .0 ≡ min (slowTo 0) 4294967295
   unfolding sum
-  slow-none = omega arith
+  slow-none fits = omega arith
 
-  pub slow-fits : (k delay : ℕ) → Good c → k < c .count → delay ≡ slowTo k → Fits w32 (delay + runAt c k .length .0)
-  slow-fits k delay good h is =
-      record { fits = omega (arith, run-length k, lengths-to c (good .length-to) k (omega arith), good .length-to k h, good .count-to, good .fastest-to) }
+  pub slow-more : (k : ℕ) (delay next : Ticks) → delay .0 ≡ min (slowTo k) 4294967295 → next .0 ≡ min (delay .0 + runAt c k .length .0) 4294967295
+      → next .0 ≡ min (slowTo (k + 1)) 4294967295
+  slow-more k delay next is sum-is = omega (arith, run-length k, sum-next k (lengthAt c))
 
-  pub slow-more : (k delay : ℕ) → delay ≡ slowTo k → delay + runAt c k .length .0 ≡ slowTo (k + 1)
-  slow-more k delay is = omega (arith, run-length k, sum-next k (lengthAt c))
+  pub slow-done : (n k : ℕ) (delay : Ticks) → n ≡ min (c .count) 4 → length (c .runs) ≡ 4 → k ≤ n → n ≤ k → delay .0 ≡ min (slowTo k) 4294967295
+      → delay .0 ≡ min (slowestOf c) 4294967295
+  unfolding slowestOf
+  slow-done n k delay held room l h is =
+      let all : sum n (lengthAt c) ≡ ticksOf c = rw held (ticks-held c room) in
+      let same : k ≡ n = omega arith in
+      omega (arith, all, rw same at is)
 
-  pub slow-done : (k delay : ℕ) → k ≤ c .count → c .count ≤ k → delay ≡ slowTo k → delay ≡ slowestOf c
-  unfolding slowestOf ticksOf
-  slow-done k delay l h is = finished slowTo l h is
-
-  -- ---- savings
+  -- ---- affords_savings
   -- what the first k runs save
   abbrev pub savedTo : ℕ → ℕ
   savedTo k = sum k (λ i. lengthAt c i * savingAt c i)
 
-  pub saved-none : 0 ≡ savedTo 0
+  run-saved : (k : ℕ) → runAt c k .length .0 * runAt c k .saving .0 ≡ lengthAt c k * savingAt c k
+  unfolding lengthAt savingAt
+  run-saved k = refl
+
+  pub paid-none : c .power .0 + savedTo 0 ≡ c .power .0
   unfolding sum
-  saved-none = refl
+  paid-none = omega arith
 
-  pub run-fits : (k : ℕ) → Sized c → k < c .count → Fits w32 (runAt c k .length .0 * runAt c k .saving .0)
-  unfolding lengthAt savingAt
-  run-fits k sized h = record { fits = omega (arith, run-savings-to c sized k h) }
+  -- `left` is what the first k runs leave of the power
+  module _ (n k left saved : ℕ) (held : n ≡ min (c .count) 4) (is : left + savedTo k ≡ c .power .0) where
+    pub paid-more : saved ≡ runAt c k .length .0 * runAt c k .saving .0 → saved ≤ left → left - saved + savedTo (k + 1) ≡ c .power .0
+    paid-more this h = omega (arith, run-saved k, sum-next k (λ i. lengthAt c i * savingAt c i))
 
-  pub saved-fits : (k saved : ℕ) → Sized c → k < c .count → saved ≡ savedTo k → Fits w32 (saved + runAt c k .length .0 * runAt c k .saving .0)
-  unfolding lengthAt savingAt
-  saved-fits k saved sized h is =
-      record { fits = omega (arith, run-savings-to c sized k h, savings-up-to c sized k (omega arith), sized .count-to) }
+    pub unpaid : length (c .runs) ≡ 4 → k < n → saved ≡ runAt c k .length .0 * runAt c k .saving .0 → left < saved → false ≡ leb (savingsOf c) (c .power .0)
+    unpaid room l this less =
+        let some : savedTo (k + 1) ≤ savedTo n = sum-mono (λ i. lengthAt c i * savingAt c i) (k + 1) n (omega arith) in
+        let all : savedTo n ≡ savingsOf c = rw held (savings-held c room) in
+        sym (lt-leb (savingsOf c) (c .power .0) (omega (arith, run-saved k, sum-next k (λ i. lengthAt c i * savingAt c i), some, all)))
 
-  pub saved-more : (k saved : ℕ) → saved ≡ savedTo k → saved + runAt c k .length .0 * runAt c k .saving .0 ≡ savedTo (k + 1)
-  unfolding lengthAt savingAt
-  saved-more k saved is = omega (arith, sum-next k (λ i. lengthAt c i * savingAt c i))
-
-  pub saved-done : (k saved : ℕ) → k ≤ c .count → c .count ≤ k → saved ≡ savedTo k → saved ≡ savingsOf c
-  unfolding savingsOf
-  saved-done k saved l h is = finished savedTo l h is
+  pub paid : (n k left : ℕ) → n ≡ min (c .count) 4 → left + savedTo k ≡ c .power .0 → length (c .runs) ≡ 4 → k ≤ n → n ≤ k → true ≡ leb (savingsOf c) (c .power .0)
+  paid n k left held is room l h =
+      let all : savedTo n ≡ savingsOf c = rw held (savings-held c room) in
+      let same : k ≡ n = omega arith in
+      sym (le-leb (savingsOf c) (c .power .0) (omega (arith, all, rw same at is)))
 
   pub next-none : (left : ℕ) → left + sum 0 (lengthAt c) ≡ left
   unfolding sum
@@ -240,17 +246,14 @@ places-hold c k l h is = finished (λ n. every n (placeb c)) l h (sym is)
 
 -- ---- is_good
 module _ (c : Curve) (t : Bool) (few : c .count ≤ 4) (is : t ≡ every 4 (placeb c)) where
-  pub so-sized : not t ≡ false → Sized c
-  so-sized passes = places-sized c (sym is ∙ not-false t passes) few
-
   module _ (from : 1 ≤ c .fastest .0) (to : c .fastest .0 ≤ 1023) (most : c .power .0 ≤ 2000000) where
     pub bad-place : not t ≡ true → false ≡ goodb c
     unfolding goodb pick
     bad-place fails =
         rw (le-leb 1 (c .fastest .0) from, le-leb (c .fastest .0) 1023 to, le-leb (c .power .0) 2000000 most, le-leb (c .count) 4 few, ← is, not-true t fails)
 
-    pub good-places : (s : Microwatts) → not t ≡ false → s .0 ≡ savingsOf c → length (c .runs) ≡ 4 → leb (s .0) (c .power .0) ≡ goodb c
+    pub good-places : (r : Bool) → not t ≡ false → r ≡ leb (savingsOf c) (c .power .0) → length (c .runs) ≡ 4 → r ≡ goodb c
     unfolding goodb pick
-    good-places s passes saved room =
-        rw (le-leb 1 (c .fastest .0) from, le-leb (c .fastest .0) 1023 to, le-leb (c .power .0) 2000000 most, le-leb (c .count) 4 few, ← is, not-false t passes, ← saved, eq-eqb (length (c .runs)) 4 room)
-        (both-same (leb (s .0) (c .power .0)))
+    good-places r passes paid-is room =
+        rw (le-leb 1 (c .fastest .0) from, le-leb (c .fastest .0) 1023 to, le-leb (c .power .0) 2000000 most, le-leb (c .count) 4 few, ← is, not-false t passes, ← paid-is, eq-eqb (length (c .runs)) 4 room)
+        (both-same r)

@@ -42,9 +42,3 @@ goodb c =
     (both (every 4 (placeb c))
     (both (leb (savingsOf c) (c .power .0))
     (eqb (length (c .runs)) 4))))))
-
--- a curve whose savings can be summed: so a file's reader may ask before it knows that the power is enough
-pub record Sized (c : Curve) : Type 0 where
-  pub count-to : c .count ≤ 4
-  pub length-to : (i : ℕ) → i < c .count → lengthAt c i ≤ 255
-  pub saving-to : (i : ℕ) → i < c .count → savingAt c i ≤ 1000

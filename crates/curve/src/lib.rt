@@ -1,12 +1,13 @@
 // A part's curve: how slow it may be and what each tick of that saves. Ticks and microwatts are two types, and neither is taken for the other.
-// All but `slowest` and `savings` hold for any value of a curve: `power_at` and the savings go run by run and take off as they go, so no sum can
-// pass its type.
+// Every contract holds for any value of a curve: powers and savings go run by run and take off as they go, and ticks past their type stay at its
+// greatest.
 use refusal::Why;
 ghost use mathlib.Core.Path.{_≡_};
-ghost use Prim.Native.Nat.{_*_, _-_, _<_, min};
-ghost use Rattle.curve.specs.Curve.{Good, slowestOf, savingsOf};
+ghost use Prim.Native.Nat.{_+_, _*_, _-_, _<_, min};
+ghost use lib.Dec.{leb};
+ghost use Rattle.curve.specs.Curve.{slowestOf, savingsOf};
 ghost use Rattle.curve.specs.Answers.{flatOf, nextSavingOf, lastSavingOf, offCurve, powerAtOf, usedOf};
-ghost use Rattle.curve.specs.Tests.{Sized, every, blankb, rangedb, placeb, goodb};
+ghost use Rattle.curve.specs.Tests.{every, blankb, rangedb, placeb, goodb};
 
 // A count of ticks.
 pub struct Ticks(pub u32);
@@ -72,6 +73,18 @@ fn less_saved(power: Microwatts, used: Ticks, saving: Microwatts) -> Microwatts
     Microwatts((all - saved) as u32)
 }
 
+impl Ticks {
+    // Ticks together; a sum past its type stays at the greatest.
+    pub fn plus(self, more: Ticks) -> Ticks
+        ensures { λ r. ⌜ r .0 ≡ min (self .0 + more .0) 4294967295 ⌝ }
+    {
+        if u32::MAX - self.0 < more.0 {
+            return Ticks(u32::MAX);
+        }
+        Ticks(self.0 + more.0)
+    }
+}
+
 impl Power {
     // Refusal 19, with the delay as its place.
     fn off_curve(delay: Ticks) -> Power
@@ -124,6 +137,13 @@ impl Run {
         }
         self.saving.0 <= Curve::SAVING_MAX
     }
+
+    // What all its ticks save, taken wide.
+    fn saved(self) -> u64
+        ensures { λ r. ⌜ r ≡ self .length .0 * self .saving .0 ⌝ }
+    {
+        (self.length.0 as u64) * (self.saving.0 as u64)
+    }
 }
 
 impl Curve {
@@ -159,36 +179,38 @@ impl Curve {
         }
     }
 
-    // The slowest delay: the fastest plus all run lengths. Of a curve that is not good the sum may pass its type.
+    // The slowest delay: the fastest plus all run lengths. What passes the type stays at its greatest.
     pub fn slowest(self) -> Ticks
-        requires { ⌜ Good self ⌝ }
-        ensures { λ r. ⌜ r .0 ≡ slowestOf self ⌝ }
+        ensures { λ r. ⌜ r .0 ≡ min (slowestOf self) 4294967295 ⌝ }
     {
-        let n = self.count;
-        let mut delay = self.fastest.0;
+        let n = lesser(self.count, Self::RUNS_MAX);
+        let mut delay = self.fastest;
         let mut k: usize = 0;
         while k < n {
             let run = self.runs[k];
-            delay = delay + run.length.0;
+            delay = delay.plus(run.length);
             k = k + 1;
         }
-        Ticks(delay)
+        delay
     }
 
-    // All savings together. The runs are in range; whether the power is enough need not be known yet.
-    pub fn savings(self) -> Microwatts
-        requires { ⌜ Sized self ⌝ }
-        ensures { λ r. ⌜ r .0 ≡ savingsOf self ⌝ }
+    // Whether the power is at least all savings together.
+    pub fn affords_savings(self) -> bool
+        ensures { λ r. ⌜ r ≡ leb (savingsOf self) (self .power .0) ⌝ }
     {
-        let n = self.count;
-        let mut saved: u32 = 0;
+        let n = lesser(self.count, Self::RUNS_MAX);
+        let mut left = self.power.0 as u64;
         let mut k: usize = 0;
         while k < n {
             let run = self.runs[k];
-            saved = saved + run.length.0 * run.saving.0;
+            let saved = run.saved();
+            if left < saved {
+                return false;
+            }
+            left = left - saved;
             k = k + 1;
         }
-        Microwatts(saved)
+        true
     }
 
     // The saving of the tick after a delay, 0 from the slowest on.
@@ -299,7 +321,6 @@ impl Curve {
         if !self.places_are_good() {
             return false;
         }
-        let saved = self.savings();
-        saved.0 <= self.power.0
+        self.affords_savings()
     }
 }

@@ -1,6 +1,5 @@
 -- `curve::Curve::next_saving` meets its contract. The loop: the ticks left and those of the first k runs are the ticks past the fastest.
 -- Assumes nothing.
-use lib.ListN.{length}
 use mathlib.Core.Path.{_≡_}
 use Prim.Native.Nat.{_≤_, _+_, _-_}
 use Rattle.theory.specs.Sum.{sum}
@@ -58,7 +57,7 @@ loop-again c = (search needs, search (next-more))
 
 -- src/lib.rt:184:5
 returns-2 : tie.Need-returns-2 Inv-loop μ-loop
-returns-2 c = let room : length (c .before .before .before .before .args .t1 .runs) ≡ 4 = search (room-of) in search (next-past)
+returns-2 c = search (next-past, room-of)
 
 pub next-saving-spec : {M : Type 1} → statement M
 next-saving-spec =

@@ -1,6 +1,5 @@
 -- `curve::Curve::power_at` meets its contract. The loop: after k runs, the ticks beyond them are left, and the others are saved.
 -- Assumes nothing.
-use lib.ListN.{length}
 use mathlib.Core.Path.{_≡_}
 use Prim.Native.Nat.{_≤_, _-_}
 use Rattle.curve.proofs.Ways.{room-of, slowedTo, slowed-none, slowed-more, below-fastest, past-slowest, on-curve}
@@ -61,16 +60,11 @@ loop-again c = (search needs, search (slowed-more))
 
 -- src/lib.rt:245:13
 returns-2 : tie.Need-returns-2 Inv-loop μ-loop
-returns-2 c =
-    let room : length (c .before .before .before .before .before .before .before .before .before .before .before .before .before .args .t1 .runs) ≡ 4 = search (room-of) in
-    let ended = c .before .before in
-    let asked = ended .before .before .before .before .before in
-    past-slowest _ _ _ _ _ room (search needs) (asked .lesser .ensures) (search needs) (search needs) (ended .before .loop .inv .1) _
-    (asked .before .before .before .before .off-curve .ensures) (search needs)
+returns-2 c = search (past-slowest, room-of)
 
 -- src/lib.rt:224:5
 returns-3 : tie.Need-returns-3 Inv-loop μ-loop
-returns-3 c = let room : length (c .before .before .before .before .before .before .before .before .before .before .before .before .before .before .args .t1 .runs) ≡ 4 = search (room-of) in search (on-curve)
+returns-3 c = search (on-curve, room-of)
 
 pub power-at-spec : {M : Type 1} → statement M
 power-at-spec =
