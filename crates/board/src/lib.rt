@@ -2,7 +2,7 @@
 ghost use mathlib.Core.Path.{_≡_};
 ghost use Prim.Native.Nat.{_<_};
 ghost use Rattle.curve.specs.Tests.{both};
-ghost use Rattle.board.specs.Board.{blankCurve, WellFormed};
+ghost use Rattle.board.specs.Board.{blankCurve, usable, WellFormed};
 ghost use Rattle.board.specs.Tests.{Decides, blankCurves, blankLinks, emptyOf, belowOf, linkBlank, linkHeld, linkTest, linksTest, curveBlank, curveTest, curvesTest};
 use curve::Curve;
 use curve::Microwatts;
@@ -57,6 +57,13 @@ pub fn empty(deadline: Ticks, parts: usize) -> Board
         links: 0,
         link: link,
     }
+}
+
+// The usable deadline: the ticks that a path may take.
+pub fn usable_deadline(b: Board) -> u32
+    ensures { λ r. ⌜ r ≡ usable b ⌝ }
+{
+    b.deadline.0
 }
 
 // 1 where link a stands before link x in the order of from, then to; else 0.
