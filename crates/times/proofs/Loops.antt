@@ -3,25 +3,24 @@
 use mathlib.Core.Path.{_≡_, refl, sym, ap, _∙_}
 use mathlib.Core.Bool.{true, false}
 use mathlib.Core.List.{List}
-use Prim.Native.Nat.{ℕ, suc, max, _+_, _*_, _≤_, _<_}
+use Prim.Native.Nat.{ℕ, suc, max, min, _+_, _%_, _≤_, _<_}
 use native.Mathlib.Omega.{arith}
 use native.Mathlib.Numerals.{add-one}
-use native.Mathlib.Nat.{mul-le-mul-left}
 use lib.ListN.{length, getD, set}
 use lib.Seq.{ext-getD}
-use mir.Syntax.{w64, w32}
-use mir.Val.{Fits}
 use borrow.Author.Count.{below-more}
 use Rattle.base.proofs.Cases.{finished}
 use Rattle.theory.specs.Sum.{cells}
 use Rattle.theory.specs.Budget.{greatest}
 use Rattle.theory.proofs.SumLaws.{share-eq, share-ne}
-use Rattle.curve.specs.Curve.{Good, slowestOf}
+use Rattle.curve.specs.declared.Ticks.{Ticks}
+use Rattle.curve.specs.Curve.{slowestOf}
+use Rattle.curve.proofs.CurveLaws.{slowest-to}
 use Rattle.board.specs.declared.Link.{Link}
 use Rattle.board.specs.declared.Board.{Board}
 use Rattle.board.specs.Board.{noLink, curveAt, view, WellFormed}
 use Rattle.times.specs.Times.{table, firsts, fastestsOf, slowestAt, slowestsOf, wireOf, arrivalOf, startsOf, endsOf, Joined, Summed, Same}
-use Rattle.times.proofs.TableLaws.{table-at, table-set, firsts-none, firsts-more, firsts-done}
+use Rattle.times.proofs.TableLaws.{table-at, table-set, firsts-none, firsts-more, firsts-cut, firsts-done}
 
 -- no link takes more than 255 ticks
 pub wire-to : (l : Link) → wireOf l ≤ 255
@@ -32,87 +31,73 @@ pub wire-at : (b : Board) (l : ℕ) → view b .wire l ≤ 255
 unfolding view
 wire-at b l = omega arith
 
--- an index of 64 places, scaled by the width of an element
-pub scaled : (w i : ℕ) → w ≤ 16 → i < 64 → Fits w64 (i * w)
-scaled w i narrow h = omega (arith, mul-le-mul-left i narrow)
-
 -- ---- starts
-module _ (link : List Link) (n : ℕ) (e : List ℕ) (ok : Joined link n e) (k : ℕ) (h : k < n) where
-  pub from-below : getD link k noLink .from < 64
-  from-below = ok .from-in k h
-
-  pub to-below : getD link k noLink .to < 64
-  to-below = ok .to-in k h
-
-  pub arrival-fits : (w : ℕ) → w ≡ wireOf (getD link k noLink) → Fits w32 (getD e (getD link k noLink .from) 0 + w)
-  arrival-fits w is = omega (arith, ok .ends-to (getD link k noLink .from) from-below, wire-to (getD link k noLink), is)
-
 pub starts-none : (link : List Link) (e s : List ℕ) → s ≡ table 64 (λ p. 0) → s ≡ startsOf link 0 e
 unfolding startsOf arrivalOf greatest
 starts-none link e s is = is
 
-module _ (link : List Link) (n : ℕ) (e : List ℕ) (ok : Joined link n e) (s : List ℕ) (k : ℕ) (h : k < n) where
-  pub starts-more : s ≡ startsOf link k e → (w v : ℕ) → w ≡ wireOf (getD link k noLink)
-      → v ≡ max (getD s (getD link k noLink .to) 0) (getD e (getD link k noLink .from) 0 + w)
-      → set s (getD link k noLink .to) v ≡ startsOf link (k + 1) e
+module _ (link : List Link) (n : ℕ) (e s : List ℕ) (k : ℕ) (h : k < n) where
+  pub starts-more : (w : ℕ) (arrival : Ticks) (v : ℕ) → w ≡ wireOf (getD link k noLink) → arrival .0 ≡ min (getD e (getD link k noLink .from % 64) 0 + w) 4294967295
+      → v ≡ max (getD s (getD link k noLink .to % 64) 0) (arrival .0) → (Joined link n e → s ≡ startsOf link k e) → Joined link n e
+      → set s (getD link k noLink .to % 64) v ≡ startsOf link (k + 1) e
   unfolding startsOf arrivalOf greatest
-  starts-more is w v isw isv =
+  starts-more w arrival v isw isa isv before ok =
       let t = getD link k noLink .to in
       let f = getD link k noLink .from in
       let a = cells e f + wireOf (getD link k noLink) in
-      rw (add-one, is)
+      let is = before ok in
+      let t-is : t % 64 ≡ t = omega (arith, ok .to-in k h) in
+      let f-is : f % 64 ≡ f = omega (arith, ok .from-in k h) in
+      let a-is : arrival .0 ≡ a = isa ∙ rw (f-is, isw) (omega (arith, ok .ends-to f (ok .from-in k h), wire-to (getD link k noLink))) in
+      let v-is : v ≡ max (getD s t 0) a = isv ∙ rw (t-is, a-is) in
+      rw (add-one, t-is, is)
       (table-set 64 (arrivalOf link e k) (arrivalOf link e (suc k)) t v (ok .to-in k h)
-      (isv ∙ rw (is, isw, table-at 64 (arrivalOf link e k) t (ok .to-in k h), share-eq {p = t} a refl))
+      (v-is ∙ rw (is, table-at 64 (arrivalOf link e k) t (ok .to-in k h), share-eq {p = t} a refl))
       (λ j l d. omega (arith, share-ne {p = t} {i = j} a (λ q. d (sym q)))))
 
-pub starts-done : (link : List Link) (e s : List ℕ) (k n : ℕ) → k ≤ n → n ≤ k → s ≡ startsOf link k e → s ≡ startsOf link n e
-starts-done link e s k n = finished (λ i. startsOf link i e)
+pub starts-done : (link : List Link) (e s : List ℕ) (k n : ℕ) → k ≤ n → n ≤ k → (Joined link n e → s ≡ startsOf link k e) → Joined link n e → s ≡ startsOf link n e
+starts-done link e s k n l h is ok = finished (λ i. startsOf link i e) l h (is ok)
 
 -- ---- ends
 pub ends-none : (s delay e : List ℕ) → e ≡ table 64 (λ p. 0) → e ≡ endsOf s delay 0
 unfolding endsOf
 ends-none s delay = firsts-none _
 
-module _ (s delay : List ℕ) (n : ℕ) (ok : Summed s delay n) (k : ℕ) (h : k < n) where
-  pub end-fits : Fits w32 (getD s k 0 + getD delay k 0)
-  end-fits = omega (arith, ok .starts-to k h, ok .delays-to k h)
+pub ends-more : (s delay : List ℕ) (n : ℕ) (e : List ℕ) (k : ℕ) (end : Ticks) → k < n → end .0 ≡ min (getD s k 0 + getD delay k 0) 4294967295
+    → (Summed s delay n → e ≡ endsOf s delay k) → Summed s delay n → set e k (end .0) ≡ endsOf s delay (k + 1)
+unfolding endsOf
+ends-more s delay n e k end h sums before ok =
+    firsts-more _ e k (end .0) (omega (arith, ok .parts-to)) (before ok) (omega (arith, ok .starts-to k h, ok .delays-to k h))
 
-  pub ends-more : (e : List ℕ) → e ≡ endsOf s delay k → set e k (getD s k 0 + getD delay k 0) ≡ endsOf s delay (k + 1)
-  unfolding endsOf
-  ends-more e is = firsts-more _ e k _ (omega (arith, ok .parts-to)) is refl
-
-pub ends-done : (s delay e : List ℕ) (k n : ℕ) → k ≤ n → n ≤ k → e ≡ endsOf s delay k → e ≡ endsOf s delay n
-ends-done s delay e k n = finished (endsOf s delay)
+pub ends-done : (s delay e : List ℕ) (k n : ℕ) → k ≤ n → n ≤ k → (Summed s delay n → e ≡ endsOf s delay k) → Summed s delay n → e ≡ endsOf s delay n
+ends-done s delay e k n l h is ok = finished (endsOf s delay) l h (is ok)
 
 -- ---- fastest_delays, slowest_delays
 module _ (b : Board) (d : List ℕ) where
   pub fastest-none : d ≡ table 64 (λ p. 0) → d ≡ firsts 0 (view b .fastest)
   fastest-none = firsts-none _ d
 
-  pub fastest-more : WellFormed b → (k : ℕ) → k < b .parts → d ≡ firsts k (view b .fastest)
+  pub fastest-more : (n k : ℕ) → n ≡ min (b .parts) 64 → k < n → d ≡ firsts k (view b .fastest)
       → set d k (curveAt b k .fastest .0) ≡ firsts (k + 1) (view b .fastest)
   unfolding view
-  fastest-more ok k h is = firsts-more _ d k _ (omega (arith, ok .parts-to)) is refl
+  fastest-more n k cut h is = firsts-more _ d k _ (omega arith) is refl
 
-  pub fastest-done : (k : ℕ) → k ≤ b .parts → b .parts ≤ k → d ≡ firsts k (view b .fastest) → d ≡ fastestsOf b
+  pub fastest-done : (n k : ℕ) → n ≡ min (b .parts) 64 → k ≤ n → n ≤ k → d ≡ firsts k (view b .fastest) → d ≡ fastestsOf b
   unfolding fastestsOf
-  fastest-done k = firsts-done _ d k (b .parts)
+  fastest-done n k cut l h is = firsts-done _ d k n l h is ∙ rw cut (firsts-cut _ (b .parts))
 
-pub curve-good : (b : Board) → WellFormed b → (k : ℕ) → k < b .parts → Good (curveAt b k)
-curve-good b ok = ok .curves
-
-module _ (b : Board) (d : List ℕ) where
   pub slowest-none : d ≡ table 64 (λ p. 0) → d ≡ firsts 0 (slowestAt b)
   slowest-none = firsts-none _ d
 
-  pub slowest-more : WellFormed b → (k : ℕ) → k < b .parts → d ≡ firsts k (slowestAt b) → (v : ℕ) → v ≡ slowestOf (curveAt b k)
-      → set d k v ≡ firsts (k + 1) (slowestAt b)
+  pub slowest-more : (n k : ℕ) → n ≡ min (b .parts) 64 → k < n → (slowest : Ticks) → slowest .0 ≡ min (slowestOf (curveAt b k)) 4294967295
+      → (WellFormed b → d ≡ firsts k (slowestAt b)) → WellFormed b → set d k (slowest .0) ≡ firsts (k + 1) (slowestAt b)
   unfolding slowestAt
-  slowest-more ok k h is v new = firsts-more _ d k v (omega (arith, ok .parts-to)) is new
+  slowest-more n k cut h slowest new is ok =
+      firsts-more _ d k (slowest .0) (omega arith) (is ok) (omega (arith, slowest-to (curveAt b k) (ok .curves k (omega arith))))
 
-  pub slowest-done : (k : ℕ) → k ≤ b .parts → b .parts ≤ k → d ≡ firsts k (slowestAt b) → d ≡ slowestsOf b
+  pub slowest-done : (n k : ℕ) → n ≡ min (b .parts) 64 → k ≤ n → n ≤ k → (WellFormed b → d ≡ firsts k (slowestAt b)) → WellFormed b → d ≡ slowestsOf b
   unfolding slowestsOf
-  slowest-done k = firsts-done _ d k (b .parts)
+  slowest-done n k cut l h is ok = firsts-done _ d k n l h (is ok) ∙ rw cut (firsts-cut _ (b .parts))
 
 -- ---- same
 never : {A : Type 0} → false ≡ true → A

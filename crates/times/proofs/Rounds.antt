@@ -5,7 +5,7 @@ use mathlib.Core.Path.{_≡_, refl, sym, ap, _∙_}
 use mathlib.Core.Logic.{⊎-elim}
 use mathlib.Core.Bool.{Bool, true}
 use mathlib.Core.List.{List}
-use Prim.Native.Nat.{ℕ, zero, suc, _+_, _*_, _≤_, _<_}
+use Prim.Native.Nat.{ℕ, zero, suc, min, _+_, _*_, _≤_, _<_}
 use native.Mathlib.Omega.{arith}
 use native.Mathlib.Numerals.{add-one}
 use lib.ListN.{length}
@@ -24,16 +24,6 @@ use Rattle.times.proofs.Loops.{wire-at}
 unfoldable pub roundOf : List Link → ℕ → ℕ → List ℕ → ℕ → List ℕ
 roundOf link links parts delay zero = table 64 (λ p. 0)
 roundOf link links parts delay (suc i) = endsOf (startsOf link links (roundOf link links parts delay i)) delay parts
-
-module _ (link : List Link) (links parts : ℕ) (delay e : List ℕ) where
-  pub round-none : e ≡ table 64 (λ p. 0) → e ≡ roundOf link links parts delay 0
-  unfolding roundOf
-  round-none is = is
-
-  pub round-more : (k : ℕ) (s f : List ℕ) → e ≡ roundOf link links parts delay k → s ≡ startsOf link links e → f ≡ endsOf s delay parts
-      → f ≡ roundOf link links parts delay (k + 1)
-  unfolding roundOf
-  round-more k s f is₀ is₁ is₂ = rw (add-one, ← is₀, ← is₁) is₂
 
 -- ---- what the loops make, part by part
 module _ (b : Board) (ok : WellFormed b) (e : List ℕ) where
@@ -111,7 +101,7 @@ module _ (b : Board) (delay : List ℕ) (ok : Timeable b delay) where
       (lt-or-le p (b .parts))
 
   module _ (e : List ℕ) (k : ℕ) (is : e ≡ ends-after k) (h : k ≤ 65) where
-    pub joined : Joined (b .link) (b .links) e
+    joined : Joined (b .link) (b .links) e
     joined = record {
       links-to = ok .formed .links-to;
       from-in = λ l i. omega (arith, ok .formed .from-in l i, ok .formed .parts-to);
@@ -119,7 +109,7 @@ module _ (b : Board) (delay : List ℕ) (ok : Timeable b delay) where
       ends-to = λ p i. rw is (omega (arith, after-to k p));
     }
 
-    pub summed : (s : List ℕ) → s ≡ startsOf (b .link) (b .links) e → Summed s delay (b .parts)
+    summed : (s : List ℕ) → s ≡ startsOf (b .link) (b .links) e → Summed s delay (b .parts)
     summed s starts = record {
       parts-to = ok .formed .parts-to;
       starts-to = λ p i. rw (starts, is) (omega (arith, starts-at b (ok .formed) (ends-after k) p i, arrive-to (cells (ends-after k)) (2298 * k) (after-to k) p));
@@ -143,7 +133,7 @@ module _ (b : Board) (delay : List ℕ) (ok : Timeable b delay) where
   })
 
   -- a round that changed nothing
-  pub stopped : (e s f : List ℕ) (t : Bool) → s ≡ startsOf (b .link) (b .links) e → f ≡ endsOf s delay (b .parts) → Same f e t → t ≡ true
+  stopped : (e s f : List ℕ) (t : Bool) → s ≡ startsOf (b .link) (b .links) e → f ≡ endsOf s delay (b .parts) → Same f e t → t ≡ true
       → TimesOf b delay (record { start = s; end = f })
   stopped e s f t is₀ is₁ same it =
       let still : f ≡ e = same .alike it in
@@ -169,7 +159,7 @@ module _ (b : Board) (delay : List ℕ) (ok : Timeable b delay) where
       ∙ sym (after-at i p h)
 
   -- as many rounds as there are ranks
-  pub settled : (e s : List ℕ) (k : ℕ) → e ≡ ends-after k → k ≤ 65 → 65 ≤ k → s ≡ startsOf (b .link) (b .links) e → TimesOf b delay (record { start = s; end = e })
+  settled : (e s : List ℕ) (k : ℕ) → e ≡ ends-after k → k ≤ 65 → 65 ≤ k → s ≡ startsOf (b .link) (b .links) e → TimesOf b delay (record { start = s; end = e })
   unfolding view
   settled e s k is h l starts =
       let all : k ≡ 65 = omega arith in
@@ -179,3 +169,49 @@ module _ (b : Board) (delay : List ℕ) (ok : Timeable b delay) where
       (λ p i. sym (after-settles 65 p i (ok .ranked .below p i)) ∙ after-at 65 p i)
       (after-past 65)
       (after-room 65))
+
+-- ---- the loop of `times_of`: `e` are the ends after k rounds, on each board that has these links and parts and can be timed
+pub record After (link : List Link) (links parts : ℕ) (delay e : List ℕ) (k : ℕ) : Type 0 where
+  pub is : (b : Board) → link ≡ b .link → links ≡ b .links → parts ≡ b .parts → Timeable b delay → e ≡ roundOf (b .link) (b .links) (b .parts) delay k
+
+module _ (link : List Link) (links parts : ℕ) (delay e : List ℕ) where
+  pub after-none : e ≡ table 64 (λ p. 0) → After link links parts delay e 0
+  unfolding roundOf
+  after-none is = record { is = λ b _ _ _ _. is }
+
+  module _ (k : ℕ) (before : After link links parts delay e k) (h : k ≤ 65) (s : List ℕ) (began : Joined link links e → s ≡ startsOf link links e) where
+    starts-are : (b : Board) → link ≡ b .link → links ≡ b .links → parts ≡ b .parts → Timeable b delay → s ≡ startsOf (b .link) (b .links) e
+    starts-are b q₁ q₂ q₃ ok = (rw (q₁, q₂) at began) (joined b delay ok e k (before .is b q₁ q₂ q₃ ok) h)
+
+    module _ (f : List ℕ) (ended : Summed s delay parts → f ≡ endsOf s delay parts) where
+      ends-are : (b : Board) → link ≡ b .link → links ≡ b .links → parts ≡ b .parts → Timeable b delay → f ≡ endsOf s delay (b .parts)
+      ends-are b q₁ q₂ q₃ ok = (rw q₃ at ended) (summed b delay ok e k (before .is b q₁ q₂ q₃ ok) h s (starts-are b q₁ q₂ q₃ ok))
+
+      pub after-more : After link links parts delay f (k + 1)
+      unfolding roundOf
+      after-more = record {
+        is = λ b q₁ q₂ q₃ ok. rw (add-one, ← before .is b q₁ q₂ q₃ ok, ← starts-are b q₁ q₂ q₃ ok) (ends-are b q₁ q₂ q₃ ok);
+      }
+
+-- ---- its returns: the counts that were cut are the board's own
+module _ (b : Board) (delay : List ℕ) (links parts : ℕ) (links-cut : links ≡ min (b .links) 256) (parts-cut : parts ≡ min (b .parts) 64) (e : List ℕ) (k : ℕ)
+    (before : After (b .link) links parts delay e k) (s : List ℕ) (began : Joined (b .link) links e → s ≡ startsOf (b .link) links e) where
+  links-are : Timeable b delay → links ≡ b .links
+  links-are ok = omega (arith, ok .formed .links-to)
+
+  parts-are : Timeable b delay → parts ≡ b .parts
+  parts-are ok = omega (arith, ok .formed .parts-to)
+
+  pub stops : (f : List ℕ) (t : Bool) → k < 65 → (Summed s delay parts → f ≡ endsOf s delay parts) → Same f e t → t ≡ true → Timeable b delay
+      → TimesOf b delay (record { start = s; end = f })
+  stops f t h ended same it ok =
+      let within : k ≤ 65 = omega arith in
+      stopped b delay ok e s f t
+      (starts-are (b .link) links parts delay e k before within s began b refl (links-are ok) (parts-are ok) ok)
+      (ends-are (b .link) links parts delay e k before within s began f ended b refl (links-are ok) (parts-are ok) ok)
+      same it
+
+  pub settles : k ≤ 65 → 65 ≤ k → Timeable b delay → TimesOf b delay (record { start = s; end = e })
+  settles h l ok =
+      settled b delay ok e s k (before .is b refl (links-are ok) (parts-are ok) ok) h l
+      (starts-are (b .link) links parts delay e k before h s began b refl (links-are ok) (parts-are ok) ok)

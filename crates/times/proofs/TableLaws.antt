@@ -4,7 +4,7 @@ use mathlib.Core.Path.{_≡_, refl, sym, ap, _∙_}
 use mathlib.Core.Logic.{⊎-elim}
 use mathlib.Core.Bool.{Bool}
 use mathlib.Core.List.{List}
-use Prim.Native.Nat.{ℕ, zero, suc, _+_, _≤_, _<_}
+use Prim.Native.Nat.{ℕ, zero, suc, min, _+_, _≤_, _<_}
 use native.Mathlib.Decide.{ℕ-discrete}
 use native.Mathlib.Numerals.{add-one}
 use native.Mathlib.Omega.{arith}
@@ -55,6 +55,11 @@ ltb-other j k d =
     ⊎-elim (λ (h : j < k). lt-ltb j k h ∙ sym (lt-ltb j (suc k) (omega arith))) (λ (h : k ≤ j). le-ltb j k h ∙ sym (le-ltb j (suc k) (omega arith)))
     (lt-or-le j k)
 
+ltb-cut : (p n : ℕ) → p < 64 → ltb p (min n 64) ≡ ltb p n
+ltb-cut p n h =
+    ⊎-elim (λ (l : p < n). lt-ltb p (min n 64) (omega arith) ∙ sym (lt-ltb p n l)) (λ (l : n ≤ p). le-ltb p (min n 64) (omega arith) ∙ sym (le-ltb p n l))
+    (lt-or-le p n)
+
 module _ (f : ℕ → ℕ) where
   pub firsts-none : (xs : List ℕ) → xs ≡ table 64 (λ p. 0) → xs ≡ firsts 0 f
   unfolding firsts pick
@@ -65,6 +70,11 @@ module _ (f : ℕ → ℕ) where
   firsts-more xs k v h is new =
       rw (add-one, is)
       (table-set 64 _ _ k v h (new ∙ rw (lt-ltb k (suc k) (omega arith))) (λ j l d. ap (λ (t : Bool). pick t (f j) 0) (ltb-other j k d)))
+
+  -- a count cut to the places there are makes no difference
+  pub firsts-cut : (n : ℕ) → firsts (min n 64) f ≡ firsts n f
+  unfolding firsts
+  firsts-cut n = table-ext 64 _ _ (λ p h. ap (λ (t : Bool). pick t (f p) 0) (ltb-cut p n h))
 
   pub firsts-done : (xs : List ℕ) (k n : ℕ) → k ≤ n → n ≤ k → xs ≡ firsts k f → xs ≡ firsts n f
   firsts-done xs k n = finished (λ i. firsts i f)

@@ -1,8 +1,11 @@
 // When parts start and end: in rounds, each from the ends of the round before, until a round changes nothing.
+// Of a board that is not well formed nothing is promised but that the calls end: counts are cut to the places there are, numbers of parts are taken
+// modulo 64, and sums stay within their type.
 use board::Board;
 use board::Link;
+use curve::Ticks;
 ghost use mathlib.Core.Path.{_≡_};
-ghost use Prim.Native.Nat.{max};
+ghost use Prim.Native.Nat.{max, min, _≤_};
 ghost use Rattle.board.specs.Board.{WellFormed};
 ghost use Rattle.times.specs.Times.{table, fastestsOf, slowestsOf, wireOf, startsOf, endsOf, Joined, Summed, Same, Timeable, TimesOf};
 
@@ -25,6 +28,12 @@ fn larger(a: u32, b: u32) -> u32
     if a < b { b } else { a }
 }
 
+fn lesser(a: usize, b: usize) -> usize
+    ensures { λ r. ⌜ r ≡ min a b ⌝ }
+{
+    if a < b { a } else { b }
+}
+
 fn zeros() -> [u32; 64]
     ensures { λ r. ⌜ r ≡ table 64 (λ p. 0) ⌝ }
 {
@@ -33,10 +42,9 @@ fn zeros() -> [u32; 64]
 
 // Each part's delay at its fastest.
 pub fn fastest_delays(b: Board) -> [u32; 64]
-    requires { ⌜ WellFormed b ⌝ }
     ensures { λ r. ⌜ r ≡ fastestsOf b ⌝ }
 {
-    let n = b.parts;
+    let n = lesser(b.parts, 64);
     let mut d = zeros();
     let mut k: usize = 0;
     while k < n {
@@ -48,10 +56,9 @@ pub fn fastest_delays(b: Board) -> [u32; 64]
 
 // Each part's delay at its slowest.
 pub fn slowest_delays(b: Board) -> [u32; 64]
-    requires { ⌜ WellFormed b ⌝ }
-    ensures { λ r. ⌜ r ≡ slowestsOf b ⌝ }
+    ensures { λ r. ⌜ (WellFormed b → r ≡ slowestsOf b) ⌝ }
 {
-    let n = b.parts;
+    let n = lesser(b.parts, 64);
     let mut d = zeros();
     let mut k: usize = 0;
     while k < n {
@@ -65,16 +72,17 @@ pub fn slowest_delays(b: Board) -> [u32; 64]
 
 // Each part's start where parts end at `e`: the greatest arrival by the first `n` links, or 0.
 fn starts(link: [Link; 256], n: usize, e: [u32; 64]) -> [u32; 64]
-    requires { ⌜ Joined link n e ⌝ }
-    ensures { λ r. ⌜ r ≡ startsOf link n e ⌝ }
+    requires { ⌜ n ≤ 256 ⌝ }
+    ensures { λ r. ⌜ (Joined link n e → r ≡ startsOf link n e) ⌝ }
 {
     let mut s = zeros();
     let mut k: usize = 0;
     while k < n {
         let l = link[k];
-        let f = l.from;
-        let t = l.to;
-        s[t] = larger(s[t], e[f] + wire(l));
+        let f = l.from % 64;
+        let t = l.to % 64;
+        let arrival = Ticks(e[f]).plus(Ticks(wire(l)));
+        s[t] = larger(s[t], arrival.0);
         k = k + 1;
     }
     s
@@ -82,13 +90,14 @@ fn starts(link: [Link; 256], n: usize, e: [u32; 64]) -> [u32; 64]
 
 // Each part's end: its start plus its delay.
 fn ends(s: [u32; 64], delay: [u32; 64], n: usize) -> [u32; 64]
-    requires { ⌜ Summed s delay n ⌝ }
-    ensures { λ r. ⌜ r ≡ endsOf s delay n ⌝ }
+    requires { ⌜ n ≤ 64 ⌝ }
+    ensures { λ r. ⌜ (Summed s delay n → r ≡ endsOf s delay n) ⌝ }
 {
     let mut e = zeros();
     let mut k: usize = 0;
     while k < n {
-        e[k] = s[k] + delay[k];
+        let end = Ticks(s[k]).plus(Ticks(delay[k]));
+        e[k] = end.0;
         k = k + 1;
     }
     e
@@ -110,12 +119,11 @@ fn same(a: [u32; 64], b: [u32; 64]) -> bool
 
 // The starts and ends of given delays. A board without a loop is settled after 65 rounds at most, mostly far sooner.
 pub fn times_of(b: Board, delay: [u32; 64]) -> Schedule
-    requires { ⌜ Timeable b delay ⌝ }
-    ensures { λ r. ⌜ TimesOf b delay r ⌝ }
+    ensures { λ r. ⌜ (Timeable b delay → TimesOf b delay r) ⌝ }
 {
     let link = b.link;
-    let links = b.links;
-    let parts = b.parts;
+    let links = lesser(b.links, 256);
+    let parts = lesser(b.parts, 64);
     let mut e = zeros();
     let mut k: usize = 0;
     while k < 65 {

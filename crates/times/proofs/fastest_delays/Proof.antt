@@ -10,6 +10,7 @@ use Rattle.times.proofs.fastest_delays.Statement.{statement}
 use Rattle.times.proofs.fastest_delays.Tie as tie
 use Rattle.times.proofs.fastest_delays.Reads as reads
 use Rattle.times.proofs.fastest_delays.Lts as lts
+use Rattle.times.proofs.lesser.Reads as lesser-reads
 use Rattle.times.proofs.zeros.Reads as zeros-reads
 
 abbrev Inv-loop : tie.InvT-loop
@@ -17,6 +18,9 @@ Inv-loop b n d₀ k₀ d k = (k ≤ n) × (d ≡ firsts k (view b .fastest))
 
 abbrev μ-loop : tie.MeasureT-loop
 μ-loop b n d₀ k₀ d k = n - k
+
+lesser-requires : tie.Need-lesser-requires Inv-loop μ-loop
+lesser-requires c κs = search needs
 
 zeros-requires : tie.Need-zeros-requires Inv-loop μ-loop
 zeros-requires c κs = search needs
@@ -54,6 +58,7 @@ fastest-delays-spec =
     (tie.spec
     Inv-loop
     μ-loop
+    lesser-requires
     zeros-requires
     loop-holds
     mul-d

@@ -1,7 +1,8 @@
 -- `times::slowest_delays` meets its contract. The invariant: the first k places hold the slowest delays of their parts.
 -- Assumes nothing.
-use Rattle.times.proofs.Loops.{curve-good, slowest-none, slowest-more, slowest-done}
+use Rattle.times.proofs.Loops.{slowest-none, slowest-more, slowest-done}
 use Rattle.times.specs.Times.{firsts, slowestAt}
+use Rattle.board.specs.Board.{WellFormed}
 use Prim.Native.Nat.{_≤_, _-_}
 use mathlib.Core.Path.{_≡_}
 use borrow.Author.Needs.{needs}
@@ -10,13 +11,17 @@ use Rattle.times.proofs.slowest_delays.Tie as tie
 use Rattle.times.proofs.slowest_delays.Reads as reads
 use Rattle.times.proofs.slowest_delays.Lts as lts
 use Rattle.curve.proofs.Curve.slowest.Reads as slowest-reads
+use Rattle.times.proofs.lesser.Reads as lesser-reads
 use Rattle.times.proofs.zeros.Reads as zeros-reads
 
 abbrev Inv-loop : tie.InvT-loop
-Inv-loop b n d₀ k₀ d k = (k ≤ n) × (d ≡ firsts k (slowestAt b))
+Inv-loop b n d₀ k₀ d k = (k ≤ n) × (WellFormed b → d ≡ firsts k (slowestAt b))
 
 abbrev μ-loop : tie.MeasureT-loop
 μ-loop b n d₀ k₀ d k = n - k
+
+lesser-requires : tie.Need-lesser-requires Inv-loop μ-loop
+lesser-requires c κs = search needs
 
 zeros-requires : tie.Need-zeros-requires Inv-loop μ-loop
 zeros-requires c κs = search needs
@@ -31,7 +36,7 @@ element-copy-out-c : tie.Need-element-copy-out-c Inv-loop μ-loop
 element-copy-out-c c = search needs
 
 slowest-requires : tie.Need-slowest-requires Inv-loop μ-loop
-slowest-requires c κs = search (curve-good)
+slowest-requires c κs = search needs
 
 mul-d : tie.Need-mul-d Inv-loop μ-loop
 mul-d c = search needs
@@ -57,6 +62,7 @@ slowest-delays-spec =
     (tie.spec
     Inv-loop
     μ-loop
+    lesser-requires
     zeros-requires
     loop-holds
     mul-c

@@ -1,7 +1,7 @@
 -- `times::starts` meets its contract. The invariant: the starts are those by the first k links.
 -- Assumes nothing.
-use Rattle.times.proofs.Loops.{scaled, from-below, to-below, arrival-fits, starts-none, starts-more, starts-done}
-use Rattle.times.specs.Times.{startsOf}
+use Rattle.times.proofs.Loops.{starts-none, starts-more, starts-done}
+use Rattle.times.specs.Times.{Joined, startsOf}
 use Prim.Native.Nat.{_≤_, _-_}
 use mathlib.Core.Path.{_≡_}
 use borrow.Author.Needs.{needs}
@@ -9,12 +9,13 @@ use Rattle.times.proofs.starts.Statement.{statement}
 use Rattle.times.proofs.starts.Tie as tie
 use Rattle.times.proofs.starts.Reads as reads
 use Rattle.times.proofs.starts.Lts as lts
+use Rattle.curve.proofs.Ticks.plus.Reads as plus-reads
 use Rattle.times.proofs.larger.Reads as larger-reads
 use Rattle.times.proofs.wire.Reads as wire-reads
 use Rattle.times.proofs.zeros.Reads as zeros-reads
 
 abbrev Inv-loop : tie.InvT-loop
-Inv-loop n link e s₀ k₀ s k = (k ≤ n) × (s ≡ startsOf link k e)
+Inv-loop n link e s₀ k₀ s k = (k ≤ n) × (Joined link n e → s ≡ startsOf link k e)
 
 abbrev μ-loop : tie.MeasureT-loop
 μ-loop n link e s₀ k₀ s k = n - k
@@ -31,32 +32,32 @@ mul-l c = search needs
 array-copy-out-l : tie.Need-array-copy-out-l Inv-loop μ-loop
 array-copy-out-l c = search needs
 
-mul-larger : tie.Need-mul-larger Inv-loop μ-loop
-mul-larger c = search (scaled, from-below, to-below, needs)
+mul-s : tie.Need-mul-s Inv-loop μ-loop
+mul-s c = search needs
 
-array-read-larger : tie.Need-array-read-larger Inv-loop μ-loop
-array-read-larger c = search (scaled, from-below, to-below, needs)
-
-mul-larger-2 : tie.Need-mul-larger-2 Inv-loop μ-loop
-mul-larger-2 c = search (scaled, from-below, to-below, needs)
-
-array-read-larger-2 : tie.Need-array-read-larger-2 Inv-loop μ-loop
-array-read-larger-2 c = search (scaled, from-below, to-below, needs)
+array-read-s : tie.Need-array-read-s Inv-loop μ-loop
+array-read-s c = search needs
 
 wire-requires : tie.Need-wire-requires Inv-loop μ-loop
 wire-requires c κs = search needs
 
-add-larger : tie.Need-add-larger Inv-loop μ-loop
-add-larger c = search (arrival-fits)
+plus-requires : tie.Need-plus-requires Inv-loop μ-loop
+plus-requires c κs = search needs
+
+mul-larger : tie.Need-mul-larger Inv-loop μ-loop
+mul-larger c = search needs
+
+array-read-larger : tie.Need-array-read-larger Inv-loop μ-loop
+array-read-larger c = search needs
 
 larger-requires : tie.Need-larger-requires Inv-loop μ-loop
 larger-requires c κs = search needs
 
-mul-s : tie.Need-mul-s Inv-loop μ-loop
-mul-s c = search (scaled, from-below, to-below, needs)
+mul-s-2 : tie.Need-mul-s-2 Inv-loop μ-loop
+mul-s-2 c = search needs
 
 array-write-s : tie.Need-array-write-s Inv-loop μ-loop
-array-write-s c = search (scaled, from-below, to-below, needs)
+array-write-s c = search needs
 
 add-k : tie.Need-add-k Inv-loop μ-loop
 add-k c = search needs
@@ -80,14 +81,14 @@ starts-spec =
     loop-holds
     mul-l
     array-copy-out-l
+    mul-s
+    array-read-s
+    wire-requires
+    plus-requires
     mul-larger
     array-read-larger
-    mul-larger-2
-    array-read-larger-2
-    wire-requires
-    add-larger
     larger-requires
-    mul-s
+    mul-s-2
     array-write-s
     add-k
     loop-less
