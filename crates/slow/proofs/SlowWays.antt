@@ -3,7 +3,7 @@
 use mathlib.Core.Path.{_≡_, _∙_}
 use mathlib.Core.Bool.{true, false}
 use mathlib.Core.List.{List}
-use Prim.Native.Nat.{ℕ, _≤_, _<_}
+use Prim.Native.Nat.{ℕ, min, _≤_, _<_}
 use native.Mathlib.Omega.{arith}
 use lib.ListN.{getD}
 use Rattle.theory.specs.Sum.{cells}
@@ -21,14 +21,15 @@ use Rattle.slow.proofs.Earlier.{earlier-lt}
 use Rattle.slow.proofs.Steps.{last-is}
 use Rattle.slow.proofs.WalkLaws.{walks}
 
-pub timeable : (b : Board) → Loopless b → (d : List ℕ) → d ≡ fastestsOf b → Timeable b d
+timeable : (b : Board) → Loopless b → (d : List ℕ) → d ≡ fastestsOf b → Timeable b d
 timeable b ok d is = fastest-timeable b (ok .formed) (ok .ranked) d is
 
-pub last-place : (b : Board) → Loopless b → (e : List ℕ) (last : ℕ) → last ≡ lastOf e (b .parts) → last < 64
-last-place b ok e last is = rw is (last-below e (b .parts) (ok .formed .parts-to))
+pub last-place : (n : ℕ) (e : List ℕ) (m last : ℕ) → n ≡ min m 64 → last ≡ lastOf e n → last < 64
+last-place n e m last cut is = rw is (last-below e n (omega arith))
 
-module _ (b : Board) (ok : Loopless b) (d : List ℕ) (isd : d ≡ fastestsOf b) (t : Schedule) (times : TimesOf b d t) where
-  pub joined : Joined (b .link) (b .links) (t .end)
+-- all at fastest they start and end at `t`, and `last` ends last
+module _ (b : Board) (ok : Loopless b) (d : List ℕ) (isd : d ≡ fastestsOf b) (t : Schedule) (times : TimesOf b d t) (last : ℕ) (isl : last ≡ lastOf (t .end) (b .parts)) where
+  joined : Joined (b .link) (b .links) (t .end)
   joined = times-joined b d (timeable b ok d isd) t times
 
   timed : Timed (view b) (view b .fastest) (cells (t .start)) (cells (t .end))
@@ -37,21 +38,41 @@ module _ (b : Board) (ok : Loopless b) (d : List ℕ) (isd : d ≡ fastestsOf b)
   ends : FastestEnds b (cells (t .end))
   ends = record { start = cells (t .start); timed = timed }
 
-  module _ (last : ℕ) (isl : last ≡ lastOf (t .end) (b .parts)) where
-    last-part : LastPart (view b) (cells (t .end)) last
-    last-part = rw isl (last-is (t .end) b (ok .formed))
+  last-part : LastPart (view b) (cells (t .end)) last
+  last-part = rw isl (last-is (t .end) b (ok .formed))
 
-    pub in-time : (a : ℕ) → a ≡ usable b → getD (t .end) last 0 ≤ a → (xs : List ℕ) → xs ≡ table 64 (λ p. 0)
-        → SlowOf b (record { slow = false; ticks = 0; count = 0; path = xs })
-    unfolding inTime table view
-    in-time a isa h xs none = kept ends (λ p k. omega (arith, last-part .greatest p k)) (rw none)
+  keeps : (a : ℕ) → a ≡ usable b → getD (t .end) last 0 ≤ a → (xs : List ℕ) → xs ≡ table 64 (λ p. 0)
+      → SlowOf b (record { slow = false; ticks = 0; count = 0; path = xs })
+  unfolding inTime table view
+  keeps a isa h xs none = kept ends (λ p k. omega (arith, last-part .greatest p k)) (rw none)
 
-    pub too-slow : (a : ℕ) → a ≡ usable b → a < getD (t .end) last 0 → (back : List ℕ)
-        → back ≡ backsOf (b .link) (t .start) (t .end) (b .links)
-        → (trail : Trail) → trail ≡ walkOf (b .parts) back last
-        → SlowOf b (record { slow = true; ticks = getD (t .end) last 0; count = trail .count; path = trail .parts })
-    unfolding shown trailOf view
-    too-slow a isa h back isb trail walk =
-        let w = walks b (ok .formed) (t .start) (t .end) timed (b .parts) last (last-part .here) (earlier-lt (b .parts) (cells (t .end)) last (last-part .here)) in
-        let is : trail ≡ trailOf (w .path) = walk ∙ rw isb (w .is) in
-        exceeded ends last-part (omega arith) (w .walked) (rw is)
+  exceeds : (a : ℕ) → a ≡ usable b → a < getD (t .end) last 0 → (back : List ℕ)
+      → (Joined (b .link) (b .links) (t .end) → back ≡ backsOf (b .link) (t .start) (t .end) (b .links))
+      → (trail : Trail) → trail ≡ walkOf (b .parts) back last
+      → SlowOf b (record { slow = true; ticks = getD (t .end) last 0; count = trail .count; path = trail .parts })
+  unfolding shown trailOf view
+  exceeds a isa h back isb trail walk =
+      let w = walks b (ok .formed) (t .start) (t .end) timed (b .parts) last (last-part .here) (earlier-lt (b .parts) (cells (t .end)) last (last-part .here)) in
+      let is : trail ≡ trailOf (w .path) = walk ∙ rw (isb joined) (w .is) in
+      exceeded ends last-part (omega arith) (w .walked) (rw is)
+
+-- the returns: the counts that were cut are the board's own
+module _ (b : Board) (n : ℕ) (cut : n ≡ min (b .parts) 64) (d : List ℕ) (isd : d ≡ fastestsOf b) (t : Schedule) (last : ℕ) (isl : last ≡ lastOf (t .end) n)
+    (a : ℕ) (isa : a ≡ usable b) (times : Timeable b d → TimesOf b d t) where
+  parts-are : Loopless b → n ≡ b .parts
+  parts-are ok = omega (arith, ok .formed .parts-to)
+
+  times-are : Loopless b → TimesOf b d t
+  times-are ok = times (timeable b ok d isd)
+
+  pub in-time : getD (t .end) last 0 ≤ a → (xs : List ℕ) → xs ≡ table 64 (λ p. 0) → Loopless b
+      → SlowOf b (record { slow = false; ticks = 0; count = 0; path = xs })
+  in-time h xs none ok = keeps b ok d isd t (times-are ok) last (rw (parts-are ok) at isl) a isa h xs none
+
+  pub too-slow : a < getD (t .end) last 0 → (m : ℕ) → m ≡ min (b .links) 256 → (back : List ℕ)
+      → (Joined (b .link) m (t .end) → back ≡ backsOf (b .link) (t .start) (t .end) m)
+      → (trail : Trail) → trail ≡ walkOf n back last → Loopless b
+      → SlowOf b (record { slow = true; ticks = getD (t .end) last 0; count = trail .count; path = trail .parts })
+  too-slow h m cut′ back isb trail walk ok =
+      let links-are : m ≡ b .links = omega (arith, ok .formed .links-to) in
+      exceeds b ok d isd t (times-are ok) last (rw (parts-are ok) at isl) a isa h back (rw links-are at isb) trail (rw (parts-are ok) at walk)

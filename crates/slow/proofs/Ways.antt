@@ -2,11 +2,14 @@
 -- Assumes nothing.
 use mathlib.Core.Path.{_≡_, refl, sym, ap, _∙_}
 use mathlib.Core.List.{List, []}
-use Prim.Native.Nat.{ℕ, zero, suc, min, _+_, _-_, _≤_, _<_}
+use Prim.Native.Nat.{ℕ, zero, suc, min, _+_, _*_, _-_, _%_, _≤_, _<_}
 use native.Mathlib.Omega.{arith}
+use native.Mathlib.Nat.{mul-le-mul-left}
 use native.Mathlib.Numerals.{add-one, sub-one}
 use lib.Dec.{eqb, ltb}
 use lib.ListN.{getD, set}
+use mir.Syntax.{w64}
+use mir.Val.{Fits}
 use borrow.Author.Tests.{le-leb, lt-leb, eq-eqb, ne-eqb}
 use Rattle.base.specs.Pick.{pick}
 use Rattle.base.proofs.Cases.{finished, pick-elim}
@@ -17,6 +20,10 @@ use Rattle.times.specs.Times.{table, wireOf, Joined}
 use Rattle.times.proofs.TableLaws.{table-at, table-set}
 use Rattle.slow.specs.declared.Trail.{Trail}
 use Rattle.slow.specs.Walk.{lastOf, backOf, backsOf, trailOf, pushedOf, walkOf}
+
+-- an index of 64 places, scaled by the width of an element
+pub scaled : (w i : ℕ) → w ≤ 16 → i < 64 → Fits w64 (i * w)
+scaled w i narrow h = omega (arith, mul-le-mul-left i narrow)
 
 -- ---- last_part
 module _ (e : List ℕ) where
@@ -40,6 +47,21 @@ module _ (e : List ℕ) where
     pub last-done : k ≤ n → n ≤ k → last ≡ lastOf e n
     last-done h l = finished (lastOf e) h l is
 
+-- ---- awaited, by the difference
+module _ (part end wire start : ℕ) where
+  pub ends-after : start < end → 64 ≡ pick (eqb (end + wire) start) part 64
+  unfolding pick
+  ends-after h = rw (ne-eqb (end + wire) start (λ q. omega arith))
+
+  module _ (h : end ≤ start) where
+    pub waits : start - end ≡ wire → part ≡ pick (eqb (end + wire) start) part 64
+    unfolding pick
+    waits q = rw (eq-eqb (end + wire) start (omega arith))
+
+    pub waits-not : (start - end ≡ wire → ⊥) → 64 ≡ pick (eqb (end + wire) start) part 64
+    unfolding pick
+    waits-not d = rw (ne-eqb (end + wire) start (λ q. d (omega arith)))
+
 -- ---- backs
 pub back-to : (link : List Link) (s e : List ℕ) (k p : ℕ) → backOf link s e k p ≤ 64
 unfolding backOf
@@ -62,21 +84,26 @@ module _ (link : List Link) (s e : List ℕ) where
   unfolding backsOf backOf
   backs-none back is = is
 
-  pub backs-more : (n : ℕ) → Joined link n e → (back : List ℕ) (k : ℕ) → k < n → back ≡ backsOf link s e k → (w a v : ℕ)
-      → w ≡ wireOf (getD link k noLink)
-      → a ≡ pick (eqb (getD e (getD link k noLink .from) 0 + w) (getD s (getD link k noLink .to) 0)) (getD link k noLink .from) 64
-      → v ≡ min (getD back (getD link k noLink .to) 0) a
-      → set back (getD link k noLink .to) v ≡ backsOf link s e (k + 1)
+  pub backs-more : (n k : ℕ) → k < n → (back : List ℕ) (w a v : ℕ) → w ≡ wireOf (getD link k noLink)
+      → a ≡ pick (eqb (getD e (getD link k noLink .from % 64) 0 + w) (getD s (getD link k noLink .to % 64) 0)) (getD link k noLink .from % 64) 64
+      → v ≡ min (getD back (getD link k noLink .to % 64) 0) a
+      → (Joined link n e → back ≡ backsOf link s e k) → Joined link n e → set back (getD link k noLink .to % 64) v ≡ backsOf link s e (k + 1)
   unfolding backsOf
-  backs-more n ok back k h is w a v isw isa isv =
+  backs-more n k h back w a v isw isa isv before ok =
       let t = getD link k noLink .to in
-      rw (add-one, is)
+      let f = getD link k noLink .from in
+      let is = before ok in
+      let t-is : t % 64 ≡ t = omega (arith, ok .to-in k h) in
+      let f-is : f % 64 ≡ f = omega (arith, ok .from-in k h) in
+      let a-is : a ≡ pick (eqb (cells e f + wireOf (getD link k noLink)) (cells s t)) f 64 = isa ∙ rw (t-is, f-is, isw) in
+      let v-is : v ≡ min (getD back t 0) a = isv ∙ rw t-is in
+      rw (add-one, t-is, is)
       (table-set 64 (backOf link s e k) (backOf link s e (suc k)) t v (ok .to-in k h)
-      (isv ∙ rw (is, table-at 64 (backOf link s e k) t (ok .to-in k h)) (rw (isa, isw) (back-here link s e k)))
+      (v-is ∙ rw (is, table-at 64 (backOf link s e k) t (ok .to-in k h)) (rw a-is (back-here link s e k)))
       (λ j l d. back-there link s e k j (λ q. d (sym q))))
 
-  pub backs-done : (back : List ℕ) (k n : ℕ) → k ≤ n → n ≤ k → back ≡ backsOf link s e k → back ≡ backsOf link s e n
-  backs-done back k n = finished (backsOf link s e)
+  pub backs-done : (back : List ℕ) (k n : ℕ) → k ≤ n → n ≤ k → (Joined link n e → back ≡ backsOf link s e k) → Joined link n e → back ≡ backsOf link s e n
+  backs-done back k n h l is ok = finished (backsOf link s e) h l (is ok)
 
 -- ---- pushed, walk
 pub no-trail : (xs : List ℕ) → xs ≡ table 64 (λ p. 0) → record { count = 0; parts = xs } ≡ trailOf []

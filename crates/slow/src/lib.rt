@@ -1,15 +1,15 @@
 // Whether all parts at their fastest keep the usable deadline, and the path to be shown where they do not.
 use board::Board;
 use board::Link;
+use board::usable_deadline;
 use times::fastest_delays;
 use times::times_of;
 use times::wire;
 ghost use mathlib.Core.Path.{_≡_};
-ghost use Prim.Native.Nat.{_≤_, min};
+ghost use Prim.Native.Nat.{_+_, _≤_, min};
 ghost use mathlib.Core.List.{[]};
 ghost use lib.Dec.{eqb, ltb};
 ghost use Rattle.base.specs.Pick.{pick};
-ghost use Rattle.board.specs.Board.{usable};
 ghost use Rattle.times.specs.Times.{table, Joined};
 ghost use Rattle.slow.specs.Slow.{Loopless, SlowOf};
 ghost use Rattle.slow.specs.Walk.{lastOf, backsOf, pushedOf, walkOf, trailOf};
@@ -26,13 +26,6 @@ pub struct ShownPath {
 pub struct Trail {
     pub count: usize,
     pub parts: [usize; 64],
-}
-
-// The ticks that a path may take.
-fn allowed(b: Board) -> u32
-    ensures { λ r. ⌜ r ≡ usable b ⌝ }
-{
-    b.deadline.0
 }
 
 fn lesser(a: usize, b: usize) -> usize
@@ -68,25 +61,29 @@ fn last_part(e: [u32; 64], n: usize) -> usize
     last
 }
 
-// A part that a start waits for, or 64 where it does not.
-fn awaited(part: usize, arrival: u32, start: u32) -> usize
-    ensures { λ r. ⌜ r ≡ pick (eqb arrival start) part 64 ⌝ }
+// A part that a start waits for, or 64 where it does not. The difference is compared with the link's ticks, so no sum can pass its type.
+fn awaited(part: usize, end: u32, wire: u32, start: u32) -> usize
+    ensures { λ r. ⌜ r ≡ pick (eqb (end + wire) start) part 64 ⌝ }
 {
-    if arrival == start { part } else { 64 }
+    if start < end {
+        return 64;
+    }
+    if start - end == wire { part } else { 64 }
 }
 
-// For each part the lowest-numbered one linked to it that arrives at its start, or 64 where there is none.
+// For each part the lowest-numbered one linked to it that arrives at its start, or 64 where there is none. A part's number is below 64, and the
+// remainder keeps any other there.
 fn backs(link: [Link; 256], n: usize, s: [u32; 64], e: [u32; 64]) -> [usize; 64]
-    requires { ⌜ Joined link n e ⌝ }
-    ensures { λ r. ⌜ r ≡ backsOf link s e n ⌝ }
+    requires { ⌜ n ≤ 256 ⌝ }
+    ensures { λ r. ⌜ (Joined link n e → r ≡ backsOf link s e n) ⌝ }
 {
     let mut back = all(64);
     let mut k: usize = 0;
     while k < n {
         let l = link[k];
-        let f = l.from;
-        let t = l.to;
-        back[t] = lesser(back[t], awaited(f, e[f] + wire(l), s[t]));
+        let f = l.from % 64;
+        let t = l.to % 64;
+        back[t] = lesser(back[t], awaited(f, e[f], wire(l), s[t]));
         k = k + 1;
     }
     back
@@ -132,16 +129,15 @@ fn walk(back: [usize; 64], at: usize, left: usize) -> Trail
 
 // Refusal 10: whether a path is too slow at its fastest, and which one is shown.
 pub fn slow_path(b: Board) -> ShownPath
-    requires { ⌜ Loopless b ⌝ }
-    ensures { λ r. ⌜ SlowOf b r ⌝ }
+    ensures { λ r. ⌜ (Loopless b → SlowOf b r) ⌝ }
 {
-    let parts = b.parts;
+    let parts = lesser(b.parts, 64);
     let d = fastest_delays(b);
     let t = times_of(b, d);
     let e = t.end;
     let last = last_part(e, parts);
     let ticks = e[last];
-    let limit = allowed(b);
+    let limit = usable_deadline(b);
     if ticks <= limit {
         let none = all(0);
         return ShownPath {
@@ -153,7 +149,7 @@ pub fn slow_path(b: Board) -> ShownPath
     }
     let s = t.start;
     let link = b.link;
-    let links = b.links;
+    let links = lesser(b.links, 256);
     let back = backs(link, links, s, e);
     let trail = walk(back, last, parts);
     let path = trail.parts;

@@ -1,7 +1,7 @@
 -- `slow::backs` meets its contract. The invariant: the steps back are those by the first k links.
 -- Assumes nothing.
-use Rattle.times.proofs.Loops.{scaled, from-below, to-below, arrival-fits}
 use Rattle.slow.proofs.Ways.{backs-none, backs-more, backs-done}
+use Rattle.times.specs.Times.{Joined}
 use Rattle.slow.specs.Walk.{backsOf}
 use Prim.Native.Nat.{_≤_, _-_}
 use mathlib.Core.Path.{_≡_}
@@ -16,7 +16,7 @@ use Rattle.slow.proofs.lesser.Reads as lesser-reads
 use Rattle.times.proofs.wire.Reads as wire-reads
 
 abbrev Inv-loop : tie.InvT-loop
-Inv-loop n link s e back₀ k₀ back k = (k ≤ n) × (back ≡ backsOf link s e k)
+Inv-loop n link s e back₀ k₀ back k = (k ≤ n) × (Joined link n e → back ≡ backsOf link s e k)
 
 abbrev μ-loop : tie.MeasureT-loop
 μ-loop n link s e back₀ k₀ back k = n - k
@@ -34,28 +34,25 @@ array-copy-out-l : tie.Need-array-copy-out-l Inv-loop μ-loop
 array-copy-out-l c = search needs
 
 mul-lesser : tie.Need-mul-lesser Inv-loop μ-loop
-mul-lesser c = search (scaled, from-below, to-below, needs)
+mul-lesser c = search needs
 
 array-read-lesser : tie.Need-array-read-lesser Inv-loop μ-loop
-array-read-lesser c = search (scaled, from-below, to-below, needs)
+array-read-lesser c = search needs
 
 mul-awaited : tie.Need-mul-awaited Inv-loop μ-loop
-mul-awaited c = search (scaled, from-below, to-below, needs)
+mul-awaited c = search needs
 
 array-read-awaited : tie.Need-array-read-awaited Inv-loop μ-loop
-array-read-awaited c = search (scaled, from-below, to-below, needs)
+array-read-awaited c = search needs
 
 wire-requires : tie.Need-wire-requires Inv-loop μ-loop
 wire-requires c κs = search needs
 
-add-awaited : tie.Need-add-awaited Inv-loop μ-loop
-add-awaited c = search (arrival-fits)
-
 mul-awaited-2 : tie.Need-mul-awaited-2 Inv-loop μ-loop
-mul-awaited-2 c = search (scaled, from-below, to-below, needs)
+mul-awaited-2 c = search needs
 
 array-read-awaited-2 : tie.Need-array-read-awaited-2 Inv-loop μ-loop
-array-read-awaited-2 c = search (scaled, from-below, to-below, needs)
+array-read-awaited-2 c = search needs
 
 awaited-requires : tie.Need-awaited-requires Inv-loop μ-loop
 awaited-requires c κs = search needs
@@ -64,10 +61,10 @@ lesser-requires : tie.Need-lesser-requires Inv-loop μ-loop
 lesser-requires c κs = search needs
 
 mul-back : tie.Need-mul-back Inv-loop μ-loop
-mul-back c = search (scaled, from-below, to-below, needs)
+mul-back c = search needs
 
 array-write-back : tie.Need-array-write-back Inv-loop μ-loop
-array-write-back c = search (scaled, from-below, to-below, needs)
+array-write-back c = search needs
 
 add-k : tie.Need-add-k Inv-loop μ-loop
 add-k c = search needs
@@ -96,7 +93,6 @@ backs-spec =
     mul-awaited
     array-read-awaited
     wire-requires
-    add-awaited
     mul-awaited-2
     array-read-awaited-2
     awaited-requires

@@ -1,25 +1,29 @@
 -- `slow::slow_path` meets its contract.
 -- Assumes nothing.
-use Rattle.slow.proofs.SlowWays.{timeable, last-place, joined, in-time, too-slow}
-use Rattle.times.proofs.Loops.{scaled}
+use Rattle.slow.proofs.SlowWays.{last-place, in-time, too-slow}
+use Rattle.slow.proofs.Ways.{scaled}
 use borrow.Author.Needs.{needs}
 use Rattle.slow.proofs.slow_path.Statement.{statement}
 use Rattle.slow.proofs.slow_path.Tie as tie
 use Rattle.slow.proofs.slow_path.Reads as reads
 use Rattle.slow.proofs.slow_path.Lts as lts
+use Rattle.board.proofs.usable_deadline.Reads as usable-deadline-reads
 use Rattle.slow.proofs.all.Reads as all-reads
-use Rattle.slow.proofs.allowed.Reads as allowed-reads
 use Rattle.slow.proofs.backs.Reads as backs-reads
 use Rattle.slow.proofs.last_part.Reads as last-part-reads
+use Rattle.slow.proofs.lesser.Reads as lesser-reads
 use Rattle.slow.proofs.walk.Reads as walk-reads
 use Rattle.times.proofs.fastest_delays.Reads as fastest-delays-reads
 use Rattle.times.proofs.times_of.Reads as times-of-reads
+
+lesser-requires : tie.Need-lesser-requires
+lesser-requires c κs = search needs
 
 fastest-delays-requires : tie.Need-fastest-delays-requires
 fastest-delays-requires c κs = search needs
 
 times-of-requires : tie.Need-times-of-requires
-times-of-requires c κs = search (timeable)
+times-of-requires c κs = search needs
 
 last-part-requires : tie.Need-last-part-requires
 last-part-requires c κs = search needs
@@ -30,8 +34,8 @@ mul-ticks c = search (scaled, last-place, needs)
 array-read-ticks : tie.Need-array-read-ticks
 array-read-ticks c = search (scaled, last-place, needs)
 
-allowed-requires : tie.Need-allowed-requires
-allowed-requires c κs = search needs
+usable-deadline-requires : tie.Need-usable-deadline-requires
+usable-deadline-requires c κs = search needs
 
 all-requires : tie.Need-all-requires
 all-requires c κs = search needs
@@ -39,8 +43,11 @@ all-requires c κs = search needs
 returns : tie.Need-returns
 returns c = search (in-time)
 
+lesser-requires-2 : tie.Need-lesser-requires-2
+lesser-requires-2 c κs = search needs
+
 backs-requires : tie.Need-backs-requires
-backs-requires c κs = search (joined)
+backs-requires c κs = search needs
 
 walk-requires : tie.Need-walk-requires
 walk-requires c κs = search needs
@@ -52,14 +59,16 @@ pub slow-path-spec : {M : Type 1} → statement M
 slow-path-spec =
     tie.close
     (tie.spec
+    lesser-requires
     fastest-delays-requires
     times-of-requires
     last-part-requires
     mul-ticks
     array-read-ticks
-    allowed-requires
+    usable-deadline-requires
     all-requires
     returns
+    lesser-requires-2
     backs-requires
     walk-requires
     returns-2)
