@@ -1,8 +1,8 @@
 -- The ways through the making of a budget: delays, powers, total.
 -- Assumes nothing.
-use mathlib.Core.Path.{_≡_, refl, ap}
+use mathlib.Core.Path.{_≡_, refl, ap, _∙_}
 use mathlib.Core.List.{List}
-use Prim.Native.Nat.{ℕ, _+_, _-_, _*_, _≤_, _<_}
+use Prim.Native.Nat.{ℕ, min, _+_, _-_, _*_, _≤_, _<_}
 use native.Mathlib.Omega.{arith}
 use lib.ListN.{getD, set}
 use Rattle.base.proofs.Cases.{finished}
@@ -19,19 +19,19 @@ use Rattle.curve.proofs.CurveLaws.{power-at-on}
 use Rattle.board.specs.declared.Board.{Board}
 use Rattle.board.specs.Board.{curveAt}
 use Rattle.times.specs.Times.{table, firsts}
-use Rattle.times.proofs.TableLaws.{firsts-none, firsts-more, firsts-done, firsts-at}
-use Rattle.budget.specs.Made.{OnCurve, Delays, Placed, Spans, delaysOf, powersOf, totalOf, budgetOf}
+use Rattle.times.proofs.TableLaws.{firsts-none, firsts-more, firsts-cut, firsts-done, firsts-at}
+use Rattle.budget.specs.Made.{OnCurve, Delays, Placed, delaysOf, powersOf, totalOf, budgetOf}
 
 -- ---- power_of
-module _ (c : Curve) (d : ℕ) (on : OnCurve c d) (power : Power) (is : power ≡ powerAtOf c d) where
-  pub power-there : (p : Microwatts) → power ≡ At p → p .0 ≡ powerOf c d
-  power-there p e =
+module _ (c : Curve) (d : ℕ) (power : Power) (is : power ≡ powerAtOf c d) where
+  pub power-there : (p : Microwatts) → power ≡ At p → OnCurve c d → p .0 ≡ powerOf c d
+  power-there p e on =
       let k : powerAtOf c d ≡ At (record { 0 = powerOf c d }) = power-at-on c d (on .from) (on .to) in
       let q : p ≡ record { 0 = powerOf c d } = cc in
       ap (λ (m : Microwatts). m .0) q
 
-  pub power-not-refused : (why : Why) (place : ℕ) → power ≡ Refused why place → 0 ≡ powerOf c d
-  power-not-refused why place e =
+  pub power-not-refused : (why : Why) (place : ℕ) → power ≡ Refused why place → OnCurve c d → 0 ≡ powerOf c d
+  power-not-refused why place e on =
       let k : powerAtOf c d ≡ At (record { 0 = powerOf c d }) = power-at-on c d (on .from) (on .to) in
       absurd (let z : _≡_ {A = ℕ} 0 1 = cc in omega arith)
 
@@ -41,16 +41,12 @@ module _ (n : ℕ) (start end : List ℕ) where
   unfolding delaysOf
   delays-none = firsts-none _
 
-  pub delays-more : Spans n start end → (d : List ℕ) (k : ℕ) → k < n → d ≡ delaysOf k start end →
-      set d k (getD end k 0 - getD start k 0) ≡ delaysOf (k + 1) start end
+  pub delays-more : n ≤ 64 → (d : List ℕ) (k v : ℕ) → k < n → v ≡ getD end k 0 - getD start k 0 → d ≡ delaysOf k start end → set d k v ≡ delaysOf (k + 1) start end
   unfolding delaysOf
-  delays-more ok d k h is = firsts-more _ d k _ (omega (arith, ok .parts-to)) is refl
+  delays-more few d k v h new is = firsts-more _ d k v (omega arith) is new
 
   pub delays-done : (d : List ℕ) (k : ℕ) → k ≤ n → n ≤ k → d ≡ delaysOf k start end → d ≡ delaysOf n start end
   delays-done d k = finished (λ i. delaysOf i start end)
-
-  pub delay-fits : Spans n start end → (k : ℕ) → k < n → getD start k 0 ≤ getD end k 0
-  delay-fits ok k h = ok .later k h
 
 -- ---- powers
 module _ (b : Board) (delay : List ℕ) where
@@ -60,15 +56,14 @@ module _ (b : Board) (delay : List ℕ) where
   pub powers-none : (w : List ℕ) → w ≡ table 64 (λ p. 0) → Drawn w 0
   powers-none = firsts-none _
 
-  pub power-on : Delays b delay → (k : ℕ) → k < b .parts → OnCurve (curveAt b k) (getD delay k 0)
-  power-on ok k h = ok .on k h
+  module _ (n : ℕ) (cut : n ≡ min (b .parts) 64) (w : List ℕ) (k : ℕ) where
+    pub powers-more : k < n → (p : Microwatts) → (OnCurve (curveAt b k) (getD delay k 0) → p .0 ≡ powerOf (curveAt b k) (getD delay k 0))
+        → (Delays b delay → Drawn w k) → Delays b delay → Drawn (set w k (p .0)) (k + 1)
+    powers-more h p new is ok = firsts-more _ w k (p .0) (omega arith) (is ok) (new (ok .on k (omega arith)))
 
-  pub powers-more : Delays b delay → (w : List ℕ) (k v : ℕ) → k < b .parts → Drawn w k → v ≡ powerOf (curveAt b k) (getD delay k 0) → Drawn (set w k v) (k + 1)
-  powers-more ok w k v h is new = firsts-more _ w k v (omega (arith, ok .formed .parts-to)) is new
-
-  pub powers-done : (w : List ℕ) (k : ℕ) → k ≤ b .parts → b .parts ≤ k → Drawn w k → w ≡ powersOf b delay
-  unfolding powersOf
-  powers-done w k = firsts-done _ w k (b .parts)
+    pub powers-done : k ≤ n → n ≤ k → (Delays b delay → Drawn w k) → Delays b delay → w ≡ powersOf b delay
+    unfolding powersOf
+    powers-done l h is ok = firsts-done _ w k n l h (is ok) ∙ rw cut (firsts-cut _ (b .parts))
 
 -- ---- total
 module _ (power : List ℕ) where
@@ -92,21 +87,19 @@ module _ (power : List ℕ) where
   total-fits s k n few h so = omega (arith, so .most)
 
 -- ---- budget_of
-module _ (b : Board) (start end : List ℕ) (ok : Placed b start end) where
-  pub placed-spans : Spans (b .parts) start end
-  placed-spans = record { parts-to = ok .formed .parts-to; later = ok .later }
-
-  pub few-parts : b .parts ≤ 64
-  few-parts = ok .formed .parts-to
-
-  pub placed-delays : (d : List ℕ) → d ≡ delaysOf (b .parts) start end → Delays b d
+module _ (b : Board) (start end : List ℕ) where
+  placed-delays : Placed b start end → (d : List ℕ) → d ≡ delaysOf (b .parts) start end → Delays b d
   unfolding delaysOf
-  placed-delays d is = record {
+  placed-delays ok d is = record {
     formed = ok .formed;
     on = λ p h. rw (is, firsts-at (λ q. cells end q - cells start q) (b .parts) (ok .formed .parts-to) p h) (ok .on p h);
   }
 
-  pub made : (d w : List ℕ) (t : ℕ) → d ≡ delaysOf (b .parts) start end → w ≡ powersOf b d → t ≡ totalOf (b .parts) w →
-      record { start = start; delay = d; end = end; power = w; total = t } ≡ budgetOf b start end
+  pub made : (n : ℕ) (d w : List ℕ) (t : ℕ) → n ≡ min (b .parts) 64 → d ≡ delaysOf n start end → (Delays b d → w ≡ powersOf b d) → t ≡ totalOf n w
+      → Placed b start end → record { start = start; delay = d; end = end; power = w; total = t } ≡ budgetOf b start end
   unfolding budgetOf
-  made d w t ed ew et = rw (et, ew, ed)
+  made n d w t cut ed ew et ok =
+      let all : n ≡ b .parts = omega (arith, ok .formed .parts-to) in
+      let d-is : d ≡ delaysOf (b .parts) start end = rw all at ed in
+      let t-is : t ≡ totalOf (b .parts) w = rw all at et in
+      rw (t-is, ew (placed-delays ok d d-is), d-is)

@@ -20,11 +20,6 @@ pub record Delays (b : Board) (delay : List ℕ) : Type 0 where
   pub formed : WellFormed b
   pub on : (p : ℕ) → p < b .parts → OnCurve (curveAt b p) (cells delay p)
 
--- no part ends before it starts
-pub record Spans (n : ℕ) (start end : List ℕ) : Type 0 where
-  pub parts-to : n ≤ 64
-  pub later : (p : ℕ) → p < n → cells start p ≤ cells end p
-
 -- each part takes from its fastest to its slowest delay between its start and its end
 pub record Placed (b : Board) (start end : List ℕ) : Type 0 where
   pub formed : WellFormed b

@@ -1,14 +1,15 @@
-// A budget of a board: when each part starts and ends, what it draws, and what all draw together.
+// A budget of a board: when each part starts and ends, what it draws, and what all draw together. Of times off a part's curve nothing is promised
+// but that the call ends.
 use board::Board;
 use curve::Curve;
 use curve::Microwatts;
 use curve::Power;
 use curve::Ticks;
 ghost use mathlib.Core.Path.{_≡_};
-ghost use Prim.Native.Nat.{_+_, _≤_, _<_};
+ghost use Prim.Native.Nat.{_+_, _-_, _≤_, min};
 ghost use Rattle.curve.specs.Curve.{powerOf};
 ghost use Rattle.times.specs.Times.{table};
-ghost use Rattle.budget.specs.Made.{OnCurve, Delays, Placed, Spans, delaysOf, powersOf, totalOf, budgetOf};
+ghost use Rattle.budget.specs.Made.{OnCurve, Delays, Placed, delaysOf, powersOf, totalOf, budgetOf};
 
 // Places without a part hold 0.
 pub struct Budget {
@@ -19,6 +20,12 @@ pub struct Budget {
     pub total: u64,
 }
 
+fn lesser(a: usize, b: usize) -> usize
+    ensures { λ r. ⌜ r ≡ min a b ⌝ }
+{
+    if a < b { a } else { b }
+}
+
 fn zeros() -> [u32; 64]
     ensures { λ r. ⌜ r ≡ table 64 (λ p. 0) ⌝ }
 {
@@ -27,8 +34,7 @@ fn zeros() -> [u32; 64]
 
 // The power at a delay that the curve has.
 fn power_of(c: Curve, delay: Ticks) -> Microwatts
-    requires { ⌜ OnCurve c (delay .0) ⌝ }
-    ensures { λ r. ⌜ r .0 ≡ powerOf c (delay .0) ⌝ }
+    ensures { λ r. ⌜ (OnCurve c (delay .0) → r .0 ≡ powerOf c (delay .0)) ⌝ }
 {
     let power = c.power_at(delay);
     match power {
@@ -45,15 +51,22 @@ fn with_power(total: u64, power: Microwatts) -> u64
     total + power.0 as u64
 }
 
+// The ticks from a start to an end, none where the end is not later.
+fn between(start: u32, end: u32) -> u32
+    ensures { λ r. ⌜ r ≡ end - start ⌝ }
+{
+    if end < start { 0 } else { end - start }
+}
+
 // Each part's delay, from its start to its end.
 fn delays(n: usize, start: [u32; 64], end: [u32; 64]) -> [u32; 64]
-    requires { ⌜ Spans n start end ⌝ }
+    requires { ⌜ n ≤ 64 ⌝ }
     ensures { λ r. ⌜ r ≡ delaysOf n start end ⌝ }
 {
     let mut d = zeros();
     let mut k: usize = 0;
     while k < n {
-        d[k] = end[k] - start[k];
+        d[k] = between(start[k], end[k]);
         k = k + 1;
     }
     d
@@ -61,10 +74,9 @@ fn delays(n: usize, start: [u32; 64], end: [u32; 64]) -> [u32; 64]
 
 // Each part's power at its delay.
 fn powers(b: Board, delay: [u32; 64]) -> [u32; 64]
-    requires { ⌜ Delays b delay ⌝ }
-    ensures { λ r. ⌜ r ≡ powersOf b delay ⌝ }
+    ensures { λ r. ⌜ (Delays b delay → r ≡ powersOf b delay) ⌝ }
 {
-    let n = b.parts;
+    let n = lesser(b.parts, 64);
     let mut w = zeros();
     let mut k: usize = 0;
     while k < n {
@@ -92,12 +104,12 @@ fn total(n: usize, power: [u32; 64]) -> u64
 
 // The budget with these starts and ends.
 pub fn budget_of(b: Board, start: [u32; 64], end: [u32; 64]) -> Budget
-    requires { ⌜ Placed b start end ⌝ }
-    ensures { λ r. ⌜ r ≡ budgetOf b start end ⌝ }
+    ensures { λ r. ⌜ (Placed b start end → r ≡ budgetOf b start end) ⌝ }
 {
-    let delay = delays(b.parts, start, end);
+    let n = lesser(b.parts, 64);
+    let delay = delays(n, start, end);
     let power = powers(b, delay);
-    let all = total(b.parts, power);
+    let all = total(n, power);
     Budget {
         start: start,
         delay: delay,

@@ -3,10 +3,14 @@
 use mathlib.Core.Path.{_≡_}
 use Prim.Native.Nat.{_-_, _≤_}
 use Rattle.budget.specs.Made.{delaysOf}
-use Rattle.budget.proofs.Making.{delays-none, delays-more, delays-done, delay-fits}
+use Rattle.budget.proofs.Making.{delays-none, delays-more, delays-done}
 use borrow.Author.Needs.{needs}
 use Rattle.budget.proofs.delays.Statement.{statement}
 use Rattle.budget.proofs.delays.Tie as tie
+use Rattle.budget.proofs.delays.Reads as reads
+use Rattle.budget.proofs.delays.Lts as lts
+use Rattle.budget.proofs.between.Reads as between-reads
+use Rattle.budget.proofs.zeros.Reads as zeros-reads
 
 abbrev Inv-loop : tie.InvT-loop
 Inv-loop n start end d₀ k₀ d k = (k ≤ n) × (d ≡ delaysOf k start end)
@@ -20,23 +24,23 @@ zeros-requires c κs = search needs
 loop-holds : tie.Need-loop-holds Inv-loop μ-loop
 loop-holds c = (search needs, search (delays-none))
 
+mul-between : tie.Need-mul-between Inv-loop μ-loop
+mul-between c = search needs
+
+array-read-between : tie.Need-array-read-between Inv-loop μ-loop
+array-read-between c = search needs
+
+mul-between-2 : tie.Need-mul-between-2 Inv-loop μ-loop
+mul-between-2 c = search needs
+
+array-read-between-2 : tie.Need-array-read-between-2 Inv-loop μ-loop
+array-read-between-2 c = search needs
+
+between-requires : tie.Need-between-requires Inv-loop μ-loop
+between-requires c κs = search needs
+
 mul-d : tie.Need-mul-d Inv-loop μ-loop
 mul-d c = search needs
-
-array-read-d : tie.Need-array-read-d Inv-loop μ-loop
-array-read-d c = search needs
-
-mul-d-2 : tie.Need-mul-d-2 Inv-loop μ-loop
-mul-d-2 c = search needs
-
-array-read-d-2 : tie.Need-array-read-d-2 Inv-loop μ-loop
-array-read-d-2 c = search needs
-
-sub-d : tie.Need-sub-d Inv-loop μ-loop
-sub-d c = search (delay-fits)
-
-mul-d-3 : tie.Need-mul-d-3 Inv-loop μ-loop
-mul-d-3 c = search needs
 
 array-write-d : tie.Need-array-write-d Inv-loop μ-loop
 array-write-d c = search needs
@@ -61,12 +65,12 @@ delays-spec =
     μ-loop
     zeros-requires
     loop-holds
+    mul-between
+    array-read-between
+    mul-between-2
+    array-read-between-2
+    between-requires
     mul-d
-    array-read-d
-    mul-d-2
-    array-read-d-2
-    sub-d
-    mul-d-3
     array-write-d
     add-k
     loop-less

@@ -4,6 +4,9 @@ use Rattle.budget.proofs.Making.{power-there, power-not-refused}
 use borrow.Author.Needs.{needs}
 use Rattle.budget.proofs.power_of.Statement.{statement}
 use Rattle.budget.proofs.power_of.Tie as tie
+use Rattle.budget.proofs.power_of.Reads as reads
+use Rattle.budget.proofs.power_of.Lts as lts
+use Rattle.curve.proofs.Curve.power_at.Reads as power-at-reads
 
 power-at-requires : tie.Need-power-at-requires
 power-at-requires c κs = search needs

@@ -1,16 +1,25 @@
 -- `budget::powers` meets its contract.
 -- Assumes nothing.
 use Prim.Native.Nat.{_-_, _≤_}
-use Rattle.budget.proofs.Making.{Drawn, powers-none, powers-more, powers-done, power-on}
+use Rattle.budget.proofs.Making.{Drawn, powers-none, powers-more, powers-done}
+use Rattle.budget.specs.Made.{Delays}
 use borrow.Author.Needs.{needs}
 use Rattle.budget.proofs.powers.Statement.{statement}
 use Rattle.budget.proofs.powers.Tie as tie
+use Rattle.budget.proofs.powers.Reads as reads
+use Rattle.budget.proofs.powers.Lts as lts
+use Rattle.budget.proofs.lesser.Reads as lesser-reads
+use Rattle.budget.proofs.power_of.Reads as power-of-reads
+use Rattle.budget.proofs.zeros.Reads as zeros-reads
 
 abbrev Inv-loop : tie.InvT-loop
-Inv-loop b delay n w₀ k₀ w k = (k ≤ b .parts) × Drawn b delay w k
+Inv-loop b delay n w₀ k₀ w k = (k ≤ n) × (Delays b delay → Drawn b delay w k)
 
 abbrev μ-loop : tie.MeasureT-loop
-μ-loop b delay n w₀ k₀ w k = b .parts - k
+μ-loop b delay n w₀ k₀ w k = n - k
+
+lesser-requires : tie.Need-lesser-requires Inv-loop μ-loop
+lesser-requires c κs = search needs
 
 zeros-requires : tie.Need-zeros-requires Inv-loop μ-loop
 zeros-requires c κs = search needs
@@ -24,14 +33,14 @@ mul-c c = search needs
 element-copy-out-c : tie.Need-element-copy-out-c Inv-loop μ-loop
 element-copy-out-c c = search needs
 
-mul-t12 : tie.Need-mul-t12 Inv-loop μ-loop
-mul-t12 c = search needs
+mul-t13 : tie.Need-mul-t13 Inv-loop μ-loop
+mul-t13 c = search needs
 
-array-read-t18 : tie.Need-array-read-t18 Inv-loop μ-loop
-array-read-t18 c = search needs
+array-read-t19 : tie.Need-array-read-t19 Inv-loop μ-loop
+array-read-t19 c = search needs
 
 power-of-requires : tie.Need-power-of-requires Inv-loop μ-loop
-power-of-requires c κs = search (power-on)
+power-of-requires c κs = search needs
 
 mul-w : tie.Need-mul-w Inv-loop μ-loop
 mul-w c = search needs
@@ -57,12 +66,13 @@ powers-spec =
     (tie.spec
     Inv-loop
     μ-loop
+    lesser-requires
     zeros-requires
     loop-holds
     mul-c
     element-copy-out-c
-    mul-t12
-    array-read-t18
+    mul-t13
+    array-read-t19
     power-of-requires
     mul-w
     array-write-w
