@@ -18,7 +18,6 @@ use Rattle.groups.proofs.RoundTrip.{Bytes}
 use Rattle.curve.specs.declared.Run.{Run}
 use Rattle.curve.specs.declared.Curve.{Curve}
 use Rattle.curve.specs.Curve.{noRun, runAt, lengthAt, savingAt, Good}
-use Rattle.curve.specs.Tests.{Sized}
 use Rattle.fields.specs.Parse.{Parse, got, and-then, repeat, fieldAt}
 use Rattle.fields.specs.CurveFile.{bare, withRun, falls, runFrom, runsBytes}
 use Rattle.fields.specs.Writing.{inRow}
@@ -179,13 +178,6 @@ module _ (s : List ℕ) (fastest power count at : ℕ) where
 
   pub runs-read : (c : Curve) (n : ℕ) → count ≤ 4 → repeat (runFrom s) (bare fastest power count) at count ≡ got c n → RunsRead s fastest power count at count c n
   runs-read c n few is = repeat-keeps (runFrom s) (bare fastest power count) at 4 (RunsRead s fastest power count at) none-read run-read count few c n is
-
-pub runs-sized : (fastest power count : ℕ) (c : Curve) → count ≤ 4 → RunsGood fastest power count count c → Sized c
-runs-sized fastest power count c few good = record {
-  count-to = omega (arith, good .count-is);
-  length-to = λ i h. good .length-to i (omega (arith, good .count-is));
-  saving-to = λ i h. good .saving-to i (omega (arith, good .count-is));
-}
 
 -- ---- runs that were written are read back
 pub record RunsBack (s : List ℕ) (c : Curve) (at k n : ℕ) : Type 0 where

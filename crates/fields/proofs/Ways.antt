@@ -5,7 +5,8 @@ use mathlib.Core.Bool.{Bool, true, false, not}
 use mathlib.Core.List.{List}
 use Prim.Native.Nat.{ℕ, _+_, _-_, _≤_, _<_}
 use native.Mathlib.Omega.{arith}
-use borrow.Author.Tests.{not-true, not-false, le-leb, lt-leb}
+use lib.Dec.{leb}
+use borrow.Author.Tests.{not-true, not-false}
 use Rattle.base.specs.Pick.{pick}
 use Rattle.refusal.specs.declared.Why.{Why}
 use Rattle.refusal.specs.declared.Why.the-variants.{SavingNotBelow, PowerBelowSavings}
@@ -14,15 +15,13 @@ use Rattle.groups.specs.declared.Read.{Read}
 use Rattle.groups.specs.declared.Read.the-variants.{Number}
 use Rattle.groups.specs.declared.Read.the-variants as read
 use Rattle.groups.specs.Number.{numberAt}
-use Rattle.curve.specs.declared.Microwatts.{Microwatts}
 use Rattle.curve.specs.declared.Curve.{Curve}
 use Rattle.curve.specs.Curve.{savingsOf}
-use Rattle.curve.specs.Tests.{Sized}
 use Rattle.fields.specs.declared.CurveRead.{CurveRead}
 use Rattle.fields.specs.Parse.{Parse, got, stop, and-then, repeat, number, rangedAt, fieldAt}
 use Rattle.fields.specs.CurveFile.{bare, withRun, falls, runFrom, runsFrom, curveFrom, curveRead}
 use Rattle.fields.proofs.ParseLaws.{repeat-on, repeat-fault, field-got}
-use Rattle.fields.proofs.RunLaws.{runs-read, runs-sized}
+use Rattle.fields.proofs.RunLaws.{runs-read}
 
 -- ---- `field`
 module _ (s : List ℕ) (low high at : ℕ) (r : Read) (is : r ≡ numberAt s at) where
@@ -107,19 +106,20 @@ module _ (s : List ℕ) (fastest power from at : ℕ) (f : Read) (is : number f 
         ended : repeat (runFrom s) (bare fastest power n) next n ≡ got (r .curve) (r .next)
         ended = read-got (repeat (runFrom s) (bare fastest power n) next n) r all-bare done
 
-        pub runs-can-be-summed : Sized (r .curve)
-        runs-can-be-summed = runs-sized fastest power n (r .curve) few (runs-read s fastest power n next (r .curve) (r .next) few ended .good)
+        same-power : r .curve .power .0 ≡ power
+        same-power = runs-read s fastest power n next (r .curve) (r .next) few ended .good .power-is
 
-        module _ (saved : Microwatts) (sum : saved .0 ≡ savingsOf (r .curve)) where
-          pub runs-too-dear : (q : CurveRead) → power < saved .0 → q ≡ curveRead (stop PowerBelowSavings from) → q ≡ curveRead (runsFrom s fastest power from at)
-          unfolding runsFrom and-then pick
-          runs-too-dear q less ends = let more : power < savingsOf (r .curve) = omega arith in rw (← is, e, ended, lt-leb _ _ more) ends
+        module _ (t : Bool) (test : t ≡ leb (savingsOf (r .curve)) (r .curve .power .0)) where
+          tested : t ≡ leb (savingsOf (r .curve)) power
+          tested = test ∙ ap (leb (savingsOf (r .curve))) same-power
 
-          pub runs-afforded : saved .0 ≤ power → r ≡ curveRead (runsFrom s fastest power from at)
+          pub runs-too-dear : (q : CurveRead) → not t ≡ true → q ≡ curveRead (stop PowerBelowSavings from) → q ≡ curveRead (runsFrom s fastest power from at)
           unfolding runsFrom and-then pick
-          runs-afforded enough =
-              let most : savingsOf (r .curve) ≤ power = omega arith in
-              rw (← is, e, ended, le-leb _ _ most) (all-bare ∙ ap curveRead ended)
+          runs-too-dear q fails ends = rw (← is, e, ended, ← tested, not-true t fails) ends
+
+          pub runs-afforded : not t ≡ false → r ≡ curveRead (runsFrom s fastest power from at)
+          unfolding runsFrom and-then pick
+          runs-afforded passes = rw (← is, e, ended, ← tested, not-false t passes) (all-bare ∙ ap curveRead ended)
 
 -- ---- `read_curve`
 module _ (s : List ℕ) (at : ℕ) (f : Read) (is : number f ≡ fieldAt s 1 1023 at) where

@@ -160,8 +160,7 @@ fn read_runs(s: &[u8], fastest: u32, power: u32, from: usize, at: usize) -> Curv
                 return r;
             };
             let c = r.curve;
-            let saved = c.savings();
-            if power < saved.0 {
+            if !c.affords_savings() {
                 return refused(Why::PowerBelowSavings, from);
             }
             r

@@ -1,10 +1,10 @@
-use Rattle.fields.proofs.Ways.{runs-no-count, runs-few, runs-stopped, runs-can-be-summed, runs-too-dear, runs-afforded}
+use Rattle.fields.proofs.Ways.{runs-no-count, runs-few, runs-stopped, runs-too-dear, runs-afforded}
 use borrow.Author.Needs.{needs}
 use Rattle.fields.proofs.read_runs.Statement.{statement}
 use Rattle.fields.proofs.read_runs.Tie as tie
 use Rattle.fields.proofs.read_runs.Reads as reads
 use Rattle.fields.proofs.read_runs.Lts as lts
-use Rattle.curve.proofs.Curve.savings.Reads as savings-reads
+use Rattle.curve.proofs.Curve.affords_savings.Reads as affords-savings-reads
 use Rattle.fields.proofs.bare_curve.Reads as bare-curve-reads
 use Rattle.fields.proofs.each_run.Reads as each-run-reads
 use Rattle.fields.proofs.field.Reads as field-reads
@@ -40,8 +40,8 @@ enum-told-2 c = search needs
 returns : tie.Need-returns
 returns c = search (runs-no-count, runs-stopped, runs-too-dear, runs-afforded)
 
-savings-requires : tie.Need-savings-requires
-savings-requires c κs = search (runs-can-be-summed)
+affords-savings-requires : tie.Need-affords-savings-requires
+affords-savings-requires c κs = search needs
 
 refused-requires-2 : tie.Need-refused-requires-2
 refused-requires-2 c κs = search needs
@@ -69,7 +69,7 @@ read-runs-spec =
     enum-told
     enum-told-2
     returns
-    savings-requires
+    affords-savings-requires
     refused-requires-2
     returns-2
     returns-3
