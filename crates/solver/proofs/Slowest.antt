@@ -18,11 +18,11 @@ use Rattle.board.proofs.Lawful.{lawful}
 use Rattle.times.specs.declared.Schedule.{Schedule}
 use Rattle.times.specs.Times.{slowestsOf, Timeable, TimesOf}
 use Rattle.times.proofs.TimesLaws.{slowest-at, slowest-timeable, times-to}
-use Rattle.network.specs.Net.{Net}
-use Rattle.network.specs.Flow.{Fit, Flows}
-use Rattle.network.specs.Crash.{Good}
-use Rattle.wiring.specs.Wired.{Wired, linkArc, entryArc, exitArc}
-use Rattle.wiring.proofs.Arcs.{each-arc}
+use Rattle.solver.specs.Net.{Net}
+use Rattle.solver.specs.Flow.{Fit, Flows}
+use Rattle.solver.specs.Crash.{Good}
+use Rattle.solver.specs.Wired.{Wired, linkArc, entryArc, exitArc}
+use Rattle.solver.proofs.wiring.Arcs.{each-arc}
 use Rattle.solver.specs.Solve.{Solvable}
 use Rattle.solver.specs.Steps.{noLoads, Begun}
 

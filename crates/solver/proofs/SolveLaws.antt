@@ -13,7 +13,7 @@ use Rattle.board.proofs.Lawful.{lawful}
 use Rattle.budget.specs.declared.Budget.{Budget}
 use Rattle.budget.specs.Budget.{Allowed}
 use Rattle.budget.proofs.BudgetLaws.{allowed-budget, allowed-total, holds-once}
-use Rattle.wiring.specs.Wired.{flowOf}
+use Rattle.solver.specs.Wired.{flowOf}
 use Rattle.solver.specs.declared.Solved.{Solved}
 use Rattle.solver.specs.Solve.{Reason, Solves}
 

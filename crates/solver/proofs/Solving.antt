@@ -15,15 +15,15 @@ use Rattle.board.proofs.Lawful.{lawful}
 use Rattle.budget.specs.declared.Budget.{Budget}
 use Rattle.budget.specs.Made.{valueOf}
 use Rattle.budget.proofs.BudgetLaws.{value-alike, value-holds}
-use Rattle.network.specs.Net.{Net, netOf}
-use Rattle.network.specs.Flow.{Sheet, World, First, Decided}
-use Rattle.network.specs.Sheet.{Says}
-use Rattle.network.proofs.Verdict.{crashed-first}
-use Rattle.network.specs.Crash.{Wide, Good, Crashed}
-use Rattle.wiring.specs.Wired.{Wired, NetworkOf, timesOf}
-use Rattle.wiring.proofs.Bridge.{balanced-conserves}
-use Rattle.wiring.proofs.Nodes.{first-held, first-slack}
-use Rattle.wiring.proofs.Worlds.{board-world}
+use Rattle.solver.specs.Net.{Net, netOf}
+use Rattle.solver.specs.Flow.{Sheet, World, First, Decided}
+use Rattle.solver.specs.Sheet.{Says}
+use Rattle.solver.proofs.network.Verdict.{crashed-first}
+use Rattle.solver.specs.Crash.{Wide, Good, Crashed}
+use Rattle.solver.specs.Wired.{Wired, NetworkOf, timesOf}
+use Rattle.solver.proofs.wiring.Bridge.{balanced-conserves}
+use Rattle.solver.proofs.wiring.Nodes.{first-held, first-slack}
+use Rattle.solver.proofs.wiring.Worlds.{board-world}
 use Rattle.solver.specs.Solve.{Solvable, Solves}
 use Rattle.times.specs.declared.Schedule.{Schedule}
 use Rattle.times.specs.Times.{slowestsOf, Timeable, TimesOf}

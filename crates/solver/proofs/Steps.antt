@@ -18,7 +18,7 @@ use Rattle.times.specs.Times.{table, firsts}
 use Rattle.times.proofs.TableLaws.{table-ext, firsts-none, firsts-more, firsts-at}
 use Rattle.budget.specs.declared.Budget.{Budget}
 use Rattle.budget.specs.Made.{Placed, budgetOf, valueOf}
-use Rattle.wiring.specs.Wired.{timesOf}
+use Rattle.solver.specs.Wired.{timesOf}
 use Rattle.solver.specs.Steps.{nodesFrom, Settled, Placing, Begun}
 
 -- ---- nodes_from

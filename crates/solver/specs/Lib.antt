@@ -1,2 +1,15 @@
 pub mod Solve
 pub mod Steps
+pub mod Net
+pub mod Flow
+pub mod Sheet
+pub mod Price
+pub mod Kept
+pub mod Crash
+pub mod Label
+pub mod Push
+pub mod Lower
+pub mod Turn
+pub mod Rise
+pub mod Wired
+pub mod Laid

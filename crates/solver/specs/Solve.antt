@@ -12,7 +12,7 @@ use Rattle.board.specs.Board.{WellFormed, view, usable}
 use Rattle.budget.specs.declared.Budget.{Budget}
 use Rattle.budget.specs.Budget.{Holds}
 use Rattle.budget.specs.Made.{timesIn}
-use Rattle.wiring.specs.Wired.{flowOf}
+use Rattle.solver.specs.Wired.{flowOf}
 use Rattle.solver.specs.declared.Solved.{Solved}
 
 -- a board without a loop whose fastest delays do not exceed the deadline

@@ -11,9 +11,9 @@ use Rattle.board.specs.declared.Board.{Board}
 use Rattle.board.specs.Board.{WellFormed, view, usable}
 use Rattle.times.specs.declared.Schedule.{Schedule}
 use Rattle.times.specs.Times.{firsts, slowestsOf, TimesOf}
-use Rattle.network.specs.Net.{Net}
-use Rattle.network.specs.Flow.{Sheet, First}
-use Rattle.wiring.specs.Wired.{NetworkOf, timesOf}
+use Rattle.solver.specs.Net.{Net}
+use Rattle.solver.specs.Flow.{Sheet, First}
+use Rattle.solver.specs.Wired.{NetworkOf, timesOf}
 use Rattle.solver.specs.Solve.{Solvable}
 
 -- no load on any arc

@@ -1,6 +1,0 @@
-pub mod Net
-pub mod Flow
-pub mod Price
-pub mod Crash
-pub mod Sheet
-pub mod Kept

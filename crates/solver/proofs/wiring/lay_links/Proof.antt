@@ -1,0 +1,62 @@
+-- `wiring::lay_links` meets its contract.
+-- Assumes nothing.
+use Prim.Native.Nat.{_+_, _-_, _≤_}
+use Rattle.solver.specs.Laid.{Laid}
+use Rattle.board.specs.Board.{view}
+use Rattle.solver.proofs.wiring.Laying.{laid-none, laid-done, links-more, link-in, from-fits}
+use borrow.Author.Needs.{needs}
+use Rattle.solver.proofs.wiring.lay_links.Statement.{statement}
+use Rattle.solver.proofs.wiring.lay_links.Tie as tie
+
+abbrev Inv-loop : tie.InvT-loop
+Inv-loop tail₀ head₀ base₀ b parts links l₀ tail head base l = (l ≤ b .links) × Laid (b .parts) l (λ i. 64 + view b .from i) (view b .to) (view b .wire) tail₀ head₀ base₀ tail head base
+
+abbrev μ-loop : tie.MeasureT-loop
+μ-loop tail₀ head₀ base₀ b parts links l₀ tail head base l = b .links - l
+
+loop-holds : tie.Need-loop-holds Inv-loop μ-loop
+loop-holds c = (search needs, laid-none _ _ _ _ _ _ _)
+
+mul-link : tie.Need-mul-link Inv-loop μ-loop
+mul-link c = search needs
+
+element-copy-out-link : tie.Need-element-copy-out-link Inv-loop μ-loop
+element-copy-out-link c = search needs
+
+add-put : tie.Need-add-put Inv-loop μ-loop
+add-put c = search needs
+
+add-put-2 : tie.Need-add-put-2 Inv-loop μ-loop
+add-put-2 c = search (from-fits)
+
+put-requires : tie.Need-put-requires Inv-loop μ-loop
+put-requires c κs = search (link-in)
+
+add-l : tie.Need-add-l Inv-loop μ-loop
+add-l c = search needs
+
+loop-less : tie.Need-loop-less Inv-loop μ-loop
+loop-less c = search needs
+
+loop-again : tie.Need-loop-again Inv-loop μ-loop
+loop-again c = (search needs, search (links-more))
+
+returns : tie.Need-returns Inv-loop μ-loop
+returns c = search (laid-done)
+
+pub lay-links-spec : {M : Type 1} → statement M
+lay-links-spec =
+    tie.close
+    (tie.spec
+    Inv-loop
+    μ-loop
+    loop-holds
+    mul-link
+    element-copy-out-link
+    add-put
+    add-put-2
+    put-requires
+    add-l
+    loop-less
+    loop-again
+    returns)
