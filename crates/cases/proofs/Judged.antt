@@ -33,14 +33,15 @@ use Rattle.desk.specs.declared.Tally.{Tally}
 use Rattle.desk.specs.declared.Desk.{Desk}
 use Rattle.desk.specs.declared.Loaded.{Loaded}
 use Rattle.desk.specs.declared.Ordered.{Ordered}
-use Rattle.desk.specs.Held.{Holding, Verdict}
-use Rattle.desk.specs.Held as verdict
+use Rattle.solver.specs.Verdict.{Verdict}
+use Rattle.desk.specs.Held.{Holding}
+use Rattle.solver.specs.Verdict as verdict
 use Rattle.desk.specs.Load.{noTally, loadRefused, LoadJudged, LoadParsed, LoadSaid}
 use Rattle.desk.specs.Load as load
 use Rattle.desk.specs.Order.{changedOf, placeTried, triedOf, oneTaken, orderRefused, OrderJudged, OrderTried, OrderParsed, OrderSaid}
 use Rattle.desk.specs.Order as order
 use Rattle.desk.proofs.Tried.{never, passed-tried}
-use Rattle.demands.proofs.VerdictLaws.{verdict-done}
+use Rattle.solver.proofs.VerdictLaws.{verdict-done}
 use Rattle.cases.proofs.Best.{timesBy, best, best-budget, best-ranked, best-held}
 
 -- ---- a board whose file reads back, and for which the test of delays passed

@@ -1,4 +1,3 @@
-pub mod VerdictLaws
 pub mod Tried
 pub mod Once
 pub mod Steps

@@ -15,10 +15,11 @@ use Rattle.design.proofs.DesignLaws.{written-read}
 use Rattle.desk.specs.declared.Tally.{Tally}
 use Rattle.desk.specs.declared.Desk.{Desk}
 use Rattle.desk.specs.declared.Loaded.{Loaded}
-use Rattle.desk.specs.Held.{Holding, Verdict}
+use Rattle.solver.specs.Verdict.{Verdict}
+use Rattle.desk.specs.Held.{Holding}
 use Rattle.desk.specs.Load.{noTally, LoadJudged, LoadParsed, LoadSaid}
 use Rattle.desk.specs.Load as load
-use Rattle.demands.proofs.VerdictLaws.{verdict-done}
+use Rattle.solver.proofs.VerdictLaws.{verdict-done}
 use Rattle.desk.proofs.Tried.{never}
 use Rattle.demands.specs.Boards.{Plannable}
 use Rattle.demands.specs.Loads.{Describes, Accepted, Came}

@@ -25,13 +25,14 @@ use Rattle.desk.specs.declared.Tally.{Tally}
 use Rattle.desk.specs.declared.Desk.{Desk}
 use Rattle.desk.specs.declared.Loaded.{Loaded}
 use Rattle.desk.specs.declared.Ordered.{Ordered}
-use Rattle.desk.specs.Held.{Holding, Standing, empty, holding, Verdict}
+use Rattle.solver.specs.Verdict.{Verdict}
+use Rattle.desk.specs.Held.{Holding, Standing, empty, holding}
 use Rattle.desk.specs.Load.{loadRefused, LoadJudged, LoadParsed, LoadSaid}
 use Rattle.desk.specs.Order.{changedOf, triedOf, refusedTally, orderRefused, OrderJudged, OrderTried, OrderParsed, OrderSaid}
 use Rattle.desk.specs.Load as load
 use Rattle.desk.specs.Order as order
 use Rattle.demands.specs.Same.{SameDesk, SameLoaded, SameOrdered}
-use Rattle.demands.proofs.VerdictLaws.{SameVerdict, verdict-once}
+use Rattle.solver.proofs.VerdictLaws.{SameVerdict, verdict-once}
 use Rattle.desk.proofs.Tried.{never, Passed, tried-passed, tried-fits, changed-well}
 
 -- ---- desks with one board

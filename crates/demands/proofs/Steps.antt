@@ -25,7 +25,7 @@ use Rattle.desk.specs.Order.{changedOf, triedOf, oneTaken, orderRefused, OrderJ
 use Rattle.desk.specs.Order as order
 use Rattle.demands.specs.Boards.{Plannable}
 use Rattle.demands.specs.Orders.{Reads, Makes, Allows, ChangesOnly}
-use Rattle.demands.proofs.VerdictLaws.{verdict-done}
+use Rattle.solver.proofs.VerdictLaws.{verdict-done}
 use Rattle.desk.proofs.Tried.{never, Passed, tried-passed, passed-tried, tried-fits, Fits}
 use Rattle.demands.proofs.Tried.{changed-only}
 

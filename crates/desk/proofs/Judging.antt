@@ -1,30 +1,23 @@
--- The ways through `judge_time`, `judge`, `settle` and `load`.
+-- The ways through `settle` and `load`.
 -- Assumes nothing.
 use mathlib.Core.Path.{_≡_, refl, sym, ap, subst, _∙_}
-use mathlib.Core.Bool.{Bool, true, false, not}
+use mathlib.Core.Bool.{Bool, true, false}
 use mathlib.Core.List.{List, []}
 use Prim.Native.Nat.{ℕ}
 use native.Mathlib.Omega.{arith}
-use borrow.Author.Tests.{not-true, not-false}
 use Rattle.refusal.specs.declared.Why.{Why}
-use Rattle.refusal.specs.declared.Why.the-variants.{Looped, TooSlow}
 use Rattle.refusal.specs.declared.Answer.{Answer}
 use Rattle.refusal.specs.declared.Answer.the-variants.{Done, Refused}
 use Rattle.board.specs.declared.Board.{Board}
 use Rattle.board.specs.Board.{WellFormed}
 use Rattle.board.specs.Tests.{emptyOf}
 use Rattle.board.specs.Path.{LoopFree}
-use Rattle.cone.specs.declared.Loop.{Loop}
-use Rattle.cone.specs.declared.Loop.the-variants.{At, Free}
-use Rattle.cone.specs.Cone.{LoopSaid}
-use Rattle.cone.proofs.Loops.{loop-free-ranked}
 use Rattle.slow.specs.declared.Trail.{Trail}
-use Rattle.slow.specs.declared.ShownPath.{ShownPath}
 use Rattle.slow.specs.Walk.{trailOf}
-use Rattle.slow.specs.Slow.{Loopless, FastestEnds, shown, inTime, SlowOf, kept, exceeded}
 use Rattle.budget.specs.declared.Budget.{Budget}
 use Rattle.solver.specs.declared.Solved.{Solved}
-use Rattle.solver.specs.Solve.{Solvable, Solves}
+use Rattle.solver.specs.Verdict.{Verdict, looped, slow, fine}
+use Rattle.solver.specs.Solve.{noBudget, Solves}
 use Rattle.fields.specs.Parse.{Parse, got, stop}
 use Rattle.design.specs.declared.DesignRead.{DesignRead}
 use Rattle.design.specs.Design.{designOf}
@@ -32,15 +25,14 @@ use Rattle.design.specs.Answers.{designRead}
 use Rattle.design.proofs.DesignLaws.{design-well-formed}
 use Rattle.desk.specs.declared.Tally.{Tally}
 use Rattle.desk.specs.declared.Desk.{Desk}
-use Rattle.desk.specs.declared.Judged.{Judged}
 use Rattle.desk.specs.declared.Settled.{Settled}
 use Rattle.desk.specs.declared.Loaded.{Loaded}
-use Rattle.desk.specs.Held.{Kept, Holding, Standing, Verdict, looped, slow, fine}
+use Rattle.desk.specs.Held.{Kept, Holding, Standing}
 use Rattle.desk.specs.Held as held
-use Rattle.desk.specs.Empty.{noBudget, noAdvice, emptyDesk}
+use Rattle.desk.specs.Empty.{noAdvice, emptyDesk}
 use Rattle.desk.specs.Load.{noTally, loadRefused, LoadJudged, LoadParsed, LoadSaid}
 use Rattle.desk.specs.Load as load
-use Rattle.desk.specs.Steps.{Timely, JudgedOf, SettledOf}
+use Rattle.desk.specs.Steps.{SettledOf}
 use Rattle.desk.specs.Steps as steps
 use Rattle.desk.proofs.Tried.{never}
 
@@ -56,81 +48,26 @@ pub empty-stands : Standing emptyDesk
 unfolding emptyDesk
 empty-stands = held.empty refl
 
--- ---- `judge_time`
-pub timely-loopless : (b : Board) → Timely b → Loopless b
-timely-loopless b ok = record { formed = ok .formed; ranked = loop-free-ranked b (ok .formed) (ok .free) }
-
-in-time-no : (s : ShownPath) → s ≡ inTime → s .slow ≡ false
-unfolding inTime
-in-time-no s is = ap (λ (x : ShownPath). x .slow) is
-
-shown-yes : (s : ShownPath) (ticks : ℕ) (path : List ℕ) → s ≡ shown ticks path → s .slow ≡ true
-unfolding shown
-shown-yes s ticks path is = ap (λ (x : ShownPath). x .slow) is
-
-shown-ticks : (s : ShownPath) (ticks : ℕ) (path : List ℕ) → s ≡ shown ticks path → s .ticks ≡ ticks
-unfolding shown
-shown-ticks s ticks path is = ap (λ (x : ShownPath). x .ticks) is
-
-shown-trail : (s : ShownPath) (ticks : ℕ) (path : List ℕ) → s ≡ shown ticks path → record { count = s .count; parts = s .path } ≡ trailOf path
-unfolding shown trailOf
-shown-trail s ticks path is = rw is
-
-module _ (b : Board) (ok : Timely b) (s : ShownPath) where
-  pub in-time : (p : Trail) → SlowOf b s → not (s .slow) ≡ true → p ≡ trailOf [] → JudgedOf b (record { answer = Done; path = p })
-  in-time p (kept f within is) off listed = record { path = []; verdict = fine (ok .free) f within; listed = listed }
-  in-time p (exceeded {e = e} {p = q} {path = path} f last over walk is) off listed = off-on (not-true (s .slow) off) (shown-yes s (e q) path is)
-
-  pub too-slow : SlowOf b s → not (s .slow) ≡ false → JudgedOf b (record { answer = Refused TooSlow (s .ticks); path = record { count = s .count; parts = s .path } })
-  too-slow (kept f within is) on = off-on (in-time-no s is) (not-false (s .slow) on)
-  too-slow (exceeded {e = e} {p = q} {path = path} f last over walk is) on =
-      rw (shown-ticks s (e q) path is) (record { path = path; verdict = slow (ok .free) f last over walk; listed = shown-trail s (e q) path is })
-
--- ---- `judge`
-module _ (b : Board) (w : WellFormed b) (found : Loop) (said : WellFormed b → LoopSaid b found) where
-  pub free-timely : found ≡ Free → Timely b
-  free-timely e = record { formed = w; free = rw e at (said w) }
-
-  pub on-loop : (part : ℕ) (p : Trail) → found ≡ At part → p ≡ trailOf [] → JudgedOf b (record { answer = Refused Looped part; path = p })
-  on-loop part p e listed = record { path = []; verdict = looped (rw e at (said w)); listed = listed }
-
 -- ---- `settle`
-verdict-fine : (b : Board) {a : Answer} {path : List ℕ} → Verdict b a path → a ≡ Done → Verdict b Done [] × (path ≡ [])
-verdict-fine b (looped x) e = never e
-verdict-fine b (slow free f last over walk) e = never e
-verdict-fine b (fine free f within) e = (fine free f within, refl)
+verdict-path : (b : Board) {a : Answer} {path : List ℕ} → Verdict b a path → a ≡ Done → Verdict b Done [] × (path ≡ [])
+verdict-path b (looped x) e = never e
+verdict-path b (slow free f last over walk) e = never e
+verdict-path b (fine free f within) e = (fine free f within, refl)
 
-verdict-solvable : (b : Board) → WellFormed b → {a : Answer} {path : List ℕ} → Verdict b a path → a ≡ Done → Solvable b
-verdict-solvable b w (looped x) e = never e
-verdict-solvable b w (slow free f last over walk) e = never e
-verdict-solvable b w (fine {e = ends} free f within) e = record {
-  formed = w;
-  ranked = loop-free-ranked b w free;
-  start = f .start;
-  end = ends;
-  fastest = f .timed;
-  in-time = within;
-}
+verdict-free : (b : Board) → Verdict b Done [] → LoopFree b
+verdict-free b (fine free f within) = free
 
-verdict-free : (b : Board) {a : Answer} {path : List ℕ} → Verdict b a path → a ≡ Done → LoopFree b
-verdict-free b (looped x) e = never e
-verdict-free b (slow free f last over walk) e = free
-verdict-free b (fine free f within) e = free
-
-module _ (d : Desk) (b : Board) (w : WellFormed b) (j : Judged) (so : JudgedOf b j) where
-  pub settle-refused : (why : Why) (place : ℕ) → j .answer ≡ Refused why place → SettledOf d b (record { answer = j .answer; path = j .path; desk = d })
-  settle-refused why place e = steps.refused (rw e at (so .verdict)) e (so .listed) refl
-
-  pub settle-solvable : j .answer ≡ Done → Solvable b
-  settle-solvable e = verdict-solvable b w (so .verdict) e
+module _ (d : Desk) (b : Board) (w : WellFormed b) (s : Solved) (said : WellFormed b → Solves b s) where
+  pub settle-refused : (why : Why) (place : ℕ) → s .answer ≡ Refused why place → SettledOf d b (record { answer = s .answer; path = s .path; desk = d })
+  settle-refused why place e = steps.refused (rw e at (said w .verdict)) e (said w .listed) refl
 
   pub settle-done :
-      (s : Solved) → j .answer ≡ Done → Solves b s →
-      SettledOf d b (record { answer = j .answer; path = j .path; desk = record { held = true; board = b; budget = s .budget; advice = s .flow } })
-  settle-done s e solves =
-      let v = verdict-fine b (so .verdict) e in
-      steps.done (v .0) e (so .listed ∙ ap trailOf (v .1)) refl
-      (record { held = refl; kept = record { formed = w; free = verdict-free b (so .verdict) e; holds = solves .holds } })
+      s .answer ≡ Done →
+      SettledOf d b (record { answer = s .answer; path = s .path; desk = record { held = true; board = b; budget = s .budget; advice = s .flow } })
+  settle-done e =
+      let v = verdict-path b (said w .verdict) e in
+      steps.done (v .0) e (said w .listed ∙ ap trailOf (v .1)) refl
+      (record { held = refl; kept = record { formed = w; free = verdict-free b (v .0); holds = said w .holds e } })
 
 -- ---- `load`
 design-stop : (p : Parse Board) (r : DesignRead) (why : Why) (place : ℕ) → r ≡ designRead p → r .answer ≡ Refused why place → p ≡ stop why place

@@ -5,11 +5,8 @@ use mathlib.Core.List.{List}
 use Prim.Native.Nat.{ℕ}
 use lib.ListN.{replicate}
 use Rattle.board.specs.Tests.{emptyOf}
-use Rattle.budget.specs.declared.Budget.{Budget}
+use Rattle.solver.specs.Solve.{noBudget}
 use Rattle.desk.specs.declared.Desk.{Desk}
-
-unfoldable pub noBudget : Budget
-noBudget = record { start = replicate 64 0; delay = replicate 64 0; end = replicate 64 0; power = replicate 64 0; total = 0 }
 
 -- no load on any part, link, entry or exit
 unfoldable pub noAdvice : List ℕ

@@ -13,7 +13,8 @@ use Rattle.design.specs.Design.{designOf}
 use Rattle.desk.specs.declared.Tally.{Tally}
 use Rattle.desk.specs.declared.Desk.{Desk}
 use Rattle.desk.specs.declared.Loaded.{Loaded}
-use Rattle.desk.specs.Held.{Holding, Verdict}
+use Rattle.solver.specs.Verdict.{Verdict}
+use Rattle.desk.specs.Held.{Holding}
 
 -- "when accepted, sets both counts to zero"
 abbrev pub noTally : Tally

@@ -43,7 +43,8 @@ use Rattle.orders.specs.Order.{orderOf}
 use Rattle.desk.specs.declared.Tally.{Tally}
 use Rattle.desk.specs.declared.Desk.{Desk}
 use Rattle.desk.specs.declared.Ordered.{Ordered}
-use Rattle.desk.specs.Held.{Holding, Standing, Verdict}
+use Rattle.solver.specs.Verdict.{Verdict}
+use Rattle.desk.specs.Held.{Holding, Standing}
 
 -- "exactly its one place changes": the board with the change made
 abbrev pub changeMade : Board → Change → Curve → Board

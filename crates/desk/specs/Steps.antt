@@ -9,28 +9,16 @@ use Rattle.refusal.specs.declared.Answer.{Answer}
 use Rattle.refusal.specs.declared.Answer.the-variants.{Done, Refused}
 use Rattle.board.specs.declared.Board.{Board}
 use Rattle.board.specs.Board.{WellFormed}
-use Rattle.board.specs.Path.{LoopFree}
 use Rattle.slow.specs.declared.Trail.{Trail}
 use Rattle.slow.specs.Walk.{trailOf}
 use Rattle.orders.specs.declared.Order.{Order}
 use Rattle.desk.specs.declared.Tally.{Tally}
 use Rattle.desk.specs.declared.Desk.{Desk}
-use Rattle.desk.specs.declared.Judged.{Judged}
 use Rattle.desk.specs.declared.Settled.{Settled}
 use Rattle.desk.specs.declared.Ordered.{Ordered}
-use Rattle.desk.specs.Held.{Holding, Standing, Verdict}
+use Rattle.solver.specs.Verdict.{Verdict}
+use Rattle.desk.specs.Held.{Holding, Standing}
 use Rattle.desk.specs.Order.{changedOf, triedOf, counts, refusedTally, OrderTried}
-
--- a board whose time is judged
-pub record Timely (b : Board) : Type 0 where
-  pub formed : WellFormed b
-  pub free : LoopFree b
-
--- the board's verdict, with its path
-pub record JudgedOf (b : Board) (r : Judged) : Type 0 where
-  pub path : List ℕ
-  pub verdict : Verdict b (r .answer) path
-  pub listed : r .path ≡ trailOf path
 
 -- the board is refused and the desk stays, or it is held with its budget
 pub data SettledOf (d : Desk) (b : Board) (r : Settled) : Type 0 where

@@ -1,7 +1,6 @@
 // The desk: it holds no board, or one board with its budget. Boards are loaded, changed by orders and written here.
 use board::Board;
 use budget::Budget;
-use cone::Loop;
 use curve::Ticks;
 use orders::Change;
 use orders::Order;
@@ -17,11 +16,12 @@ ghost use Rattle.board.specs.Board.{WellFormed};
 ghost use Rattle.slow.specs.Walk.{trailOf};
 ghost use Rattle.orders.specs.declared.Change.the-variants.{AddLink, RemoveLink};
 ghost use Rattle.orders.specs.Order.{Orderly};
-ghost use Rattle.desk.specs.Empty.{noBudget, noAdvice, emptyDesk};
+ghost use Rattle.solver.specs.Solve.{noBudget};
+ghost use Rattle.desk.specs.Empty.{noAdvice, emptyDesk};
 ghost use Rattle.desk.specs.Load.{LoadSaid};
 ghost use Rattle.desk.specs.Order.{changedOf, placeTried, counts, refusedTally, OrderJudged, OrderGiven};
 ghost use Rattle.desk.specs.Write.{WriteGiven};
-ghost use Rattle.desk.specs.Steps.{Timely, JudgedOf, SettledOf, BoardHeld, Countable, MayMake, TriedSaid, OrderRefused, Attempted};
+ghost use Rattle.desk.specs.Steps.{SettledOf, BoardHeld, Countable, MayMake, TriedSaid, OrderRefused, Attempted};
 
 // Orders counted since the last accepted load.
 pub struct Tally {
@@ -52,12 +52,6 @@ pub struct Ordered {
     pub path: Trail,
     pub desk: Desk,
     pub tally: Tally,
-}
-
-// What a board as a whole is refused for, with the path shown at refusal 10.
-struct Judged {
-    answer: Answer,
-    path: Trail,
 }
 
 // The desk with a board put on it, or as it was.
@@ -111,58 +105,15 @@ pub fn empty() -> Desk
     }
 }
 
-// ---- a board judged, and held with its budget
-// Refusal 10, of a board without a loop.
-fn judge_time(b: Board) -> Judged
-    requires { ⌜ Timely b ⌝ }
-    ensures { λ r. ⌜ JudgedOf b r ⌝ }
-{
-    let s = slow::slow_path(b);
-    if !s.slow {
-        return Judged {
-            answer: Answer::Done,
-            path: no_path(),
-        };
-    }
-    let parts = s.path;
-    Judged {
-        answer: Answer::Refused {
-            why: Why::TooSlow,
-            place: s.ticks as usize,
-        },
-        path: Trail {
-            count: s.count,
-            parts,
-        },
-    }
-}
-
-// Refusals 9 and 10.
-fn judge(b: Board) -> Judged
-    requires { ⌜ WellFormed b ⌝ }
-    ensures { λ r. ⌜ JudgedOf b r ⌝ }
-{
-    let found = cone::lowest_on_loop(b);
-    match found {
-        Loop::At(part) => Judged {
-            answer: Answer::Refused {
-                why: Why::Looped,
-                place: part,
-            },
-            path: no_path(),
-        },
-        Loop::Free => judge_time(b),
-    }
-}
-
+// ---- a board held with its budget
 // The board with its budget, if it is refused for nothing; else the desk as it was.
 fn settle(d: Desk, b: Board, advice: [u32; 448]) -> Settled
     requires { ⌜ WellFormed b ⌝ }
     ensures { λ r. ⌜ SettledOf d b r ⌝ }
 {
-    let j = judge(b);
-    let answer = j.answer;
-    let path = j.path;
+    let s = solver::solve(b, advice);
+    let answer = s.answer;
+    let path = s.path;
     let Answer::Done = answer else {
         return Settled {
             answer,
@@ -170,7 +121,6 @@ fn settle(d: Desk, b: Board, advice: [u32; 448]) -> Settled
             desk: d,
         };
     };
-    let s = solver::solve(b, advice);
     let budget = s.budget;
     let flow = s.flow;
     let desk = Desk {

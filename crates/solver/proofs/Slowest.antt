@@ -23,8 +23,8 @@ use Rattle.solver.specs.Flow.{Fit, Flows}
 use Rattle.solver.specs.Crash.{Good}
 use Rattle.solver.specs.Wired.{Wired, linkArc, entryArc, exitArc}
 use Rattle.solver.proofs.wiring.Arcs.{each-arc}
-use Rattle.solver.specs.Solve.{Solvable}
-use Rattle.solver.specs.Steps.{noLoads, Begun}
+use Rattle.solver.specs.Solve.{noLoads, Solvable}
+use Rattle.solver.specs.Steps.{Begun}
 
 -- ---- no load
 zeros-at : (n a : ℕ) → cells (replicate n 0) a ≡ 0

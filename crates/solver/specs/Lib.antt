@@ -1,4 +1,6 @@
+pub mod Verdict
 pub mod Solve
+pub mod Judge
 pub mod Steps
 pub mod Net
 pub mod Flow

@@ -4,7 +4,7 @@ use mathlib.Core.Path.{_≡_}
 use mathlib.Core.Bool.{Bool, true}
 use mathlib.Core.List.{List}
 use Prim.Native.Nat.{ℕ, _+_, _≤_, _<_}
-use lib.ListN.{length, replicate}
+use lib.ListN.{length}
 use Rattle.theory.specs.Sum.{cells}
 use Rattle.theory.specs.Budget.{Budget}
 use Rattle.board.specs.declared.Board.{Board}
@@ -15,10 +15,6 @@ use Rattle.solver.specs.Net.{Net}
 use Rattle.solver.specs.Flow.{Sheet, First}
 use Rattle.solver.specs.Wired.{NetworkOf, timesOf}
 use Rattle.solver.specs.Solve.{Solvable}
-
--- no load on any arc
-unfoldable pub noLoads : List ℕ
-noLoads = replicate 448 0
 
 -- the times of the first n nodes from node `first` on
 unfoldable pub nodesFrom : List ℕ → ℕ → ℕ → List ℕ

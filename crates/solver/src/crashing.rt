@@ -1,5 +1,6 @@
 // The main loop of the solver: from times that are too late down to the deadline. Labels grow from the sink; where they reach the source load is
 // pushed, else the labelled nodes go down.
+use crate::Work;
 use crate::labelling;
 use crate::labelling::Seek;
 use crate::network;
@@ -241,6 +242,22 @@ fn turn(
     Seek { count: 1, next: 0 }
 }
 
+// A turn more: after a push the queue begins anew, after a lowering it goes on.
+fn counted(w: Work, next: usize) -> Work {
+    if next == 0 {
+        return Work {
+            pushes: std::num::wrapping_add_u32(w.pushes, 1),
+            lowerings: w.lowerings,
+            rounds: w.rounds,
+        };
+    }
+    Work {
+        pushes: w.pushes,
+        lowerings: std::num::wrapping_add_u32(w.lowerings, 1),
+        rounds: w.rounds,
+    }
+}
+
 // Turns until the sink is at the deadline.
 fn turns(
     arcs: usize,
@@ -261,12 +278,17 @@ fn turns(
     rank: &mut [usize; 130],
     via: &mut [usize; 130],
     queue: &mut [usize; 130],
-)
+) -> Work
     requires { ⌜ Wide arcs (now tail) (now head) (now base) (now lengths) (now savings) due ⌝ }
     requires { ⌜ State arcs (now tail) (now head) (now base) (now lengths) (now savings) (now t) (now x) (now low) (now high) (now more) (now less) (now rank) (now via) 1 ⌝ }
     ensures { λ _. ⌜ Crashed (netOf arcs (now (tail .entry)) (now (head .entry)) (now (base .entry)) (now (lengths .entry)) (now (savings .entry))) due (now (t .entry)) (now (x .entry)) (now (t .exit)) (now (x .exit)) ⌝ }
 {
     let mut s = Seek { count: 1, next: 0 };
+    let mut w = Work {
+        pushes: 0,
+        lowerings: 0,
+        rounds: 0,
+    };
     while due < t[129] {
         s = turn(
             arcs,
@@ -289,10 +311,12 @@ fn turns(
             queue,
             s,
         );
+        w = counted(w, s.next);
     }
+    w
 }
 
-// From times and loads that fit down to the deadline. Where the deadline is met already nothing is changed.
+// From times and loads that fit down to the deadline. Where the deadline is met already nothing is changed. What it took is returned.
 pub(crate) fn crash(
     arcs: usize,
     tail: &[usize; 448],
@@ -305,7 +329,7 @@ pub(crate) fn crash(
     due: u32,
     t: &mut [u32; 130],
     x: &mut [u32; 448],
-)
+) -> Work
     requires { ⌜ Wide arcs (now tail) (now head) (now base) (now lengths) (now savings) due ⌝ }
     requires { ⌜ Good (netOf arcs (now tail) (now head) (now base) (now lengths) (now savings)) (now t) (now x) ⌝ }
     ensures { λ _. ⌜ Crashed (netOf arcs (now (tail .entry)) (now (head .entry)) (now (base .entry)) (now (lengths .entry)) (now (savings .entry))) due (now (t .entry)) (now (x .entry)) (now (t .exit)) (now (x .exit)) ⌝ }
@@ -348,5 +372,5 @@ pub(crate) fn crash(
         &mut rank,
         &mut via,
         &mut queue,
-    );
+    )
 }

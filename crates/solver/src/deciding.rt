@@ -143,6 +143,20 @@ fn round(
     r
 }
 
+// What rounds or sweeps came to, and how many there were.
+pub(crate) struct Outcome {
+    pub state: usize,
+    pub rounds: u32,
+}
+
+// One more where `a` is `b`.
+fn add_where(n: u32, a: usize, b: usize) -> u32 {
+    if a == b {
+        return std::num::wrapping_add_u32(n, 1);
+    }
+    n
+}
+
 // Some rounds over the order.
 fn rounds(
     arcs: usize,
@@ -154,18 +168,23 @@ fn rounds(
     order: &[usize; 896],
     due: u32,
     t: &mut [u32; 130],
-) -> usize
+) -> Outcome
     requires { ⌜ Fair arcs (now tail) (now head) (now low) (now high) due ⌝ }
     requires { ⌜ Within due (now t) ⌝ }
-    ensures { λ r. ⌜ Rounded (now (tail .entry)) (now (head .entry)) (now (low .entry)) (now (high .entry)) (now (x .entry)) arcs due (now (t .entry)) (now (t .exit)) r ⌝ }
+    ensures { λ r. ⌜ Rounded (now (tail .entry)) (now (head .entry)) (now (low .entry)) (now (high .entry)) (now (x .entry)) arcs due (now (t .entry)) (now (t .exit)) (r .state) ⌝ }
 {
     let mut r: usize = 1;
+    let mut n: u32 = 0;
     let mut k: usize = 0;
     while k < 64 {
+        n = add_where(n, r, 1);
         r = round(arcs, tail, head, low, high, x, order, due, t, r);
         k = k + 1;
     }
-    r
+    Outcome {
+        state: r,
+        rounds: n,
+    }
 }
 
 // Where the sweeps are: the next arc, 1 where this sweep has raised a time, and 1 where no times can be had.
@@ -234,20 +253,25 @@ fn sweeps(
     x: &[u32; 448],
     due: u32,
     t: &mut [u32; 130],
-) -> usize
+) -> Outcome
     requires { ⌜ Fair arcs (now tail) (now head) (now low) (now high) due ⌝ }
     requires { ⌜ Within due (now t) ⌝ }
-    ensures { λ r. ⌜ Least (now (tail .entry)) (now (head .entry)) (now (low .entry)) (now (high .entry)) (now (x .entry)) arcs due (now (t .entry)) (now (t .exit)) r ⌝ }
+    ensures { λ r. ⌜ Least (now (tail .entry)) (now (head .entry)) (now (low .entry)) (now (high .entry)) (now (x .entry)) arcs due (now (t .entry)) (now (t .exit)) (r .state) ⌝ }
 {
     let mut s = Sweep {
         arc: 0,
         dirty: 0,
         never: 0,
     };
+    let mut n: u32 = 0;
     while s.arc < arcs {
+        n = add_where(n, s.arc, 0);
         s = next_arc(arcs, tail, head, low, high, x, due, t, s);
     }
-    s.never
+    Outcome {
+        state: s.never,
+        rounds: n,
+    }
 }
 
 // All times 0 but the sink's.
@@ -263,6 +287,12 @@ fn start(t: &mut [u32; 130], due: u32)
     t[129] = due;
 }
 
+// Whether there are times that fit the loads, and how many rounds it took to tell.
+pub(crate) struct Decision {
+    pub fits: bool,
+    pub rounds: u32,
+}
+
 // The first times that fit the loads and end at the deadline, or no.
 pub(crate) fn decide(
     arcs: usize,
@@ -275,11 +305,11 @@ pub(crate) fn decide(
     order: &[usize; 896],
     due: u32,
     t: &mut [u32; 130],
-) -> bool
+) -> Decision
     requires { ⌜ Sound arcs (now tail) (now head) ⌝ }
     requires { ⌜ Curved arcs (now base) (now lengths) (now savings) ⌝ }
     requires { ⌜ due ≤ 4095 ⌝ }
-    ensures { λ r. ⌜ Decided (netOf arcs (now (tail .entry)) (now (head .entry)) (now (base .entry)) (now (lengths .entry)) (now (savings .entry))) due (cells (now (x .entry))) (cells (now (t .exit))) r ⌝ }
+    ensures { λ r. ⌜ Decided (netOf arcs (now (tail .entry)) (now (head .entry)) (now (base .entry)) (now (lengths .entry)) (now (savings .entry))) due (cells (now (x .entry))) (cells (now (t .exit))) (r .fits) ⌝ }
 {
     let mut low = [0u32; 448];
     let mut high = [0u32; 448];
@@ -298,12 +328,22 @@ pub(crate) fn decide(
     );
     start(t, due);
     let r = rounds(arcs, tail, head, &low, &high, x, order, due, t);
-    if r == 2 {
-        return false;
+    if r.state == 2 {
+        return Decision {
+            fits: false,
+            rounds: r.rounds,
+        };
     }
     let s = sweeps(arcs, tail, head, &low, &high, x, due, t);
-    if s == 0 {
-        return true;
+    let n = std::num::wrapping_add_u32(r.rounds, s.rounds);
+    if s.state == 0 {
+        return Decision {
+            fits: true,
+            rounds: n,
+        };
     }
-    false
+    Decision {
+        fits: false,
+        rounds: n,
+    }
 }

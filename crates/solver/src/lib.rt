@@ -1,6 +1,9 @@
-// The budget that is held, by a flow: advice is tried first, and the main loop from all at their slowest always finds one.
+// The solver: refusals 9 and 10 with the path shown, or the budget that is held, by a flow that shows why none is cheaper. The flow is found in a
+// network of arcs: advice is tried first, and the main loop from all parts at their slowest always finds one.
 mod crashing;
 mod deciding;
+mod finding;
+mod judging;
 mod labelling;
 mod lists;
 mod network;
@@ -9,34 +12,42 @@ mod wiring;
 
 use board::Board;
 use budget::Budget;
+use refusal::Answer;
+use refusal::Why;
+use slow::Trail;
 ghost use mathlib.Core.Path.{_≡_};
-ghost use Prim.Native.Nat.{max, _+_, _≤_, _<_};
+ghost use Prim.Native.Nat.{_+_, _≤_};
 ghost use Rattle.theory.specs.Sum.{cells};
-ghost use Rattle.board.specs.Board.{view, usable};
+ghost use Rattle.refusal.specs.declared.Answer.the-variants.{Refused};
+ghost use Rattle.board.specs.Board.{WellFormed, view, usable};
 ghost use Rattle.budget.specs.Made.{valueOf};
-ghost use Rattle.solver.specs.Net.{netOf};
 ghost use Rattle.solver.specs.Wired.{timesOf};
-ghost use Rattle.solver.specs.Solve.{Solvable, Solves};
-ghost use Rattle.solver.specs.Steps.{noLoads, nodesFrom, Settled, Begun, Slowest, Proves, Accepts, Laid};
+ghost use Rattle.solver.specs.Solve.{noBudget, refusedOf, Solvable, Solves};
+ghost use Rattle.solver.specs.Steps.{nodesFrom, Settled, Laid};
 
-// The budget, and the loads of parts, links, entries and exits that show why none is cheaper.
-pub struct Solved {
-    pub budget: Budget,
-    pub flow: [u32; 448],
+// What was done: pushes and lowerings of the main loop, and rounds over the arcs for the first times. Each count goes on from 0 past its type's end.
+pub struct Work {
+    pub pushes: u32,
+    pub lowerings: u32,
+    pub rounds: u32,
 }
 
-// ---- times of nodes
+// What a board comes to. The path is empty except at refusal 10. The flow, the loads of parts, links, entries and exits, shows why no budget is
+// cheaper. Where the board is refused, budget and flow are zeros.
+pub struct Solved {
+    pub answer: Answer,
+    pub path: Trail,
+    pub budget: Budget,
+    pub flow: [u32; 448],
+    pub work: Work,
+}
+
+// ---- the budget of times of nodes
 // The ticks that a path may take.
 fn allowed(b: Board) -> u32
     ensures { λ r. ⌜ r ≡ usable b ⌝ }
 {
     b.deadline.0
-}
-
-fn no_loads() -> [u32; 448]
-    ensures { λ r. ⌜ r ≡ noLoads ⌝ }
-{
-    [0u32; 448]
 }
 
 // The times of `n` nodes from node `first` on.
@@ -64,188 +75,7 @@ fn budget_at(b: Board, t: &[u32; 130]) -> Budget
     budget::budget_of(b, start, end)
 }
 
-fn larger(a: u32, b: u32) -> u32
-    ensures { λ r. ⌜ r ≡ max a b ⌝ }
-{
-    if a < b { b } else { a }
-}
-
-// The times of parts at their nodes, the source at 0, and the sink at the greatest end or at `due`.
-fn begin(start: [u32; 64], end: [u32; 64], due: u32, t: &mut [u32; 130])
-    ensures { λ _. ⌜ Begun start end due (now (t .exit)) ⌝ }
-{
-    network::seen(t);
-    let mut most = due;
-    let mut k: usize = 0;
-    while k < 64 {
-        t[k] = start[k];
-        t[64 + k] = end[k];
-        most = larger(most, end[k]);
-        k = k + 1;
-    }
-    t[128] = 0;
-    t[129] = most;
-}
-
-// All parts at their slowest, at their nodes.
-fn slowest_times(b: Board, due: u32) -> [u32; 130]
-    requires { ⌜ Solvable b ⌝ }
-    ensures { λ r. ⌜ Slowest b due r ⌝ }
-{
-    let d = times::slowest_delays(b);
-    let s = times::times_of(b, d);
-    let start = s.start;
-    let end = s.end;
-    let mut t = [0u32; 130];
-    begin(start, end, due, &mut t);
-    t
-}
-
-// ---- loads and their first times
-// Whether the loads that were advised are taken: they are a sheet, and there are times that fit them and end at the deadline. Then t has the first.
-fn accepts(
-    b: Board,
-    arcs: usize,
-    tail: &[usize; 448],
-    head: &[usize; 448],
-    base: &[u32; 448],
-    lengths: &[u32; 256],
-    savings: &[u32; 256],
-    order: &[usize; 896],
-    due: u32,
-    advice: &[u32; 448],
-    t: &mut [u32; 130],
-) -> bool
-    requires { ⌜ Laid b arcs (now tail) (now head) (now base) (now lengths) (now savings) due ⌝ }
-    ensures { λ r. ⌜ Accepts (netOf arcs (now (tail .entry)) (now (head .entry)) (now (base .entry)) (now (lengths .entry)) (now (savings .entry))) due (now (advice .entry)) (now (t .exit)) r ⌝ }
-{
-    if !network::conserves(arcs, tail, head, advice) {
-        return false;
-    }
-    deciding::decide(
-        arcs,
-        tail,
-        head,
-        base,
-        lengths,
-        savings,
-        advice,
-        order,
-        due,
-        t,
-    )
-}
-
-// Loads and their first times.
-struct Found {
-    loads: [u32; 448],
-    times: [u32; 130],
-}
-
-// Loads by the main loop, from all parts at their slowest. Its own times are cheapest too, but the first that fit its loads are asked for.
-fn from_slowest(
-    b: Board,
-    arcs: usize,
-    tail: &[usize; 448],
-    head: &[usize; 448],
-    base: &[u32; 448],
-    lengths: &[u32; 256],
-    savings: &[u32; 256],
-    first: &[usize; 131],
-    list: &[usize; 896],
-    order: &[usize; 896],
-    due: u32,
-) -> Found
-    requires { ⌜ Laid b arcs (now tail) (now head) (now base) (now lengths) (now savings) due ⌝ }
-    ensures { λ r. ⌜ Proves (netOf arcs (now (tail .entry)) (now (head .entry)) (now (base .entry)) (now (lengths .entry)) (now (savings .entry))) due (r .loads) (r .times) ⌝ }
-{
-    let mut late = slowest_times(b, due);
-    let mut x = no_loads();
-    crashing::crash(
-        arcs,
-        tail,
-        head,
-        base,
-        lengths,
-        savings,
-        first,
-        list,
-        due,
-        &mut late,
-        &mut x,
-    );
-    let mut early = [0u32; 130];
-    deciding::decide(
-        arcs,
-        tail,
-        head,
-        base,
-        lengths,
-        savings,
-        &x,
-        order,
-        due,
-        &mut early,
-    );
-    Found {
-        loads: x,
-        times: early,
-    }
-}
-
-// Loads and their first times: the advice where it is taken, and else those of the main loop.
-fn found_with(
-    b: Board,
-    arcs: usize,
-    tail: &[usize; 448],
-    head: &[usize; 448],
-    base: &[u32; 448],
-    lengths: &[u32; 256],
-    savings: &[u32; 256],
-    due: u32,
-    advice: [u32; 448],
-) -> Found
-    requires { ⌜ Laid b arcs (now tail) (now head) (now base) (now lengths) (now savings) due ⌝ }
-    ensures { λ r. ⌜ Proves (netOf arcs (now (tail .entry)) (now (head .entry)) (now (base .entry)) (now (lengths .entry)) (now (savings .entry))) due (r .loads) (r .times) ⌝ }
-{
-    let lists = lists::arcs_at_nodes(arcs, tail, head);
-    let first = lists.first;
-    let list = lists.list;
-    let order = lists::slowest_order(b, &first, &list);
-    let mut t = [0u32; 130];
-    if accepts(
-        b,
-        arcs,
-        tail,
-        head,
-        base,
-        lengths,
-        savings,
-        &order,
-        due,
-        &advice,
-        &mut t,
-    ) {
-        return Found {
-            loads: advice,
-            times: t,
-        };
-    }
-    from_slowest(
-        b,
-        arcs,
-        tail,
-        head,
-        base,
-        lengths,
-        savings,
-        &first,
-        &list,
-        &order,
-        due,
-    )
-}
-
+// ---- a board that can be solved
 // The budget that is held on a board whose network is laid.
 fn solve_laid(
     b: Board,
@@ -261,18 +91,22 @@ fn solve_laid(
     requires { ⌜ Laid b arcs (now tail) (now head) (now base) (now lengths) (now savings) due ⌝ }
     ensures { λ r. ⌜ Solves b r ⌝ }
 {
-    let found = found_with(b, arcs, tail, head, base, lengths, savings, due, advice);
+    let found = finding::found_with(b, arcs, tail, head, base, lengths, savings, due, advice);
     let times = found.times;
     let loads = found.loads;
     let held = budget_at(b, &times);
+    let work = found.work;
     Solved {
+        answer: Answer::Done,
+        path: judging::no_path(),
         budget: held,
         flow: loads,
+        work,
     }
 }
 
-// The budget that is held, with its reason. The advice is any loads at all: a good guess spares the main loop, and a bad one costs a look.
-pub fn solve(b: Board, advice: [u32; 448]) -> Solved
+// The budget that is held, with its reason, on a board that is refused for nothing.
+fn solve_possible(b: Board, advice: [u32; 448]) -> Solved
     requires { ⌜ Solvable b ⌝ }
     ensures { λ r. ⌜ Solves b r ⌝ }
 {
@@ -301,4 +135,62 @@ pub fn solve(b: Board, advice: [u32; 448]) -> Solved
         due,
         advice,
     )
+}
+
+// ---- any board
+fn no_budget() -> Budget
+    ensures { λ r. ⌜ r ≡ noBudget ⌝ }
+{
+    let none = [0u32; 64];
+    Budget {
+        start: none,
+        delay: none,
+        end: none,
+        power: none,
+        total: 0,
+    }
+}
+
+// A board that is refused: zeros, and nothing was done.
+fn refused(why: Why, place: usize, path: Trail) -> Solved
+    ensures { λ r. ⌜ r ≡ refusedOf (Refused why place) path ⌝ }
+{
+    let budget = no_budget();
+    let flow = finding::no_loads();
+    Solved {
+        answer: Answer::Refused { why, place },
+        path,
+        budget,
+        flow,
+        work: Work {
+            pushes: 0,
+            lowerings: 0,
+            rounds: 0,
+        },
+    }
+}
+
+// Refusal 9 or 10 of a well-formed board, or the budget that is held.
+fn solve_formed(b: Board, advice: [u32; 448]) -> Solved
+    requires { ⌜ WellFormed b ⌝ }
+    ensures { λ r. ⌜ Solves b r ⌝ }
+{
+    let j = judging::judge(b);
+    let answer = j.answer;
+    let path = j.path;
+    match answer {
+        Answer::Refused { why, place } => refused(why, place, path),
+        Answer::Done => solve_possible(b, advice),
+    }
+}
+
+// Refusals 9 and 10 with the path shown, or the budget that is held. The advice is any loads at all: a good guess spares the main loop, and a bad one
+// costs a look. Of a value that is not well formed only the end of the call is promised.
+pub fn solve(b: Board, advice: [u32; 448]) -> Solved
+    ensures { λ r. ⌜ (WellFormed b → Solves b r) ⌝ }
+{
+    if !board::well_formed(b) {
+        return refused(Why::NoBoard, 0, judging::no_path());
+    }
+    solve_formed(b, advice)
 }

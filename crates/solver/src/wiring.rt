@@ -1,14 +1,10 @@
 // A board's network: its parts, links, entries and exits as arcs in arrays that the solver lends.
+use crate::network;
 use board::Board;
 ghost use Prim.Native.Nat.{_+_, _<_};
 ghost use Rattle.board.specs.Board.{WellFormed, view};
 ghost use Rattle.solver.specs.Wired.{NetworkOf};
 ghost use Rattle.solver.specs.Laid.{Put, Laid, RunsLaid};
-
-// Nothing is done. An array that is lent as a part tells the proof that calls this how long it is.
-fn seen(s: &[u32]) {}
-
-fn seen_nodes(s: &[usize]) {}
 
 // Arc `a` goes from one node to another and is `ticks` long at least.
 fn put(
@@ -23,9 +19,9 @@ fn put(
     requires { ⌜ a < 448 ⌝ }
     ensures { λ _. ⌜ Put a from to ticks (now (tail .entry)) (now (head .entry)) (now (base .entry)) (now (tail .exit)) (now (head .exit)) (now (base .exit)) ⌝ }
 {
-    seen_nodes(tail);
-    seen_nodes(head);
-    seen(base);
+    network::seen_nodes(tail);
+    network::seen_nodes(head);
+    network::seen(base);
     tail[a] = from;
     head[a] = to;
     base[a] = ticks;
@@ -91,8 +87,8 @@ fn lay_exits(b: Board, tail: &mut [usize; 448], head: &mut [usize; 448], base: &
 fn lay_runs(b: Board, lengths: &mut [u32; 256], savings: &mut [u32; 256])
     ensures { λ _. ⌜ RunsLaid b 256 (now (lengths .exit)) (now (savings .exit)) ⌝ }
 {
-    seen(lengths);
-    seen(savings);
+    network::seen(lengths);
+    network::seen(savings);
     let mut k: usize = 0;
     while k < 256 {
         let curve = b.curve[k / 4];

@@ -1,4 +1,4 @@
-use Rattle.desk.specs.Empty.{noBudget}
+use Rattle.solver.specs.Solve.{noBudget}
 use borrow.Author.Needs.{needs}
 use Rattle.desk.proofs.no_budget.Statement.{statement}
 use Rattle.desk.proofs.no_budget.Tie as tie

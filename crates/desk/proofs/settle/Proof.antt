@@ -1,15 +1,13 @@
-use Rattle.desk.proofs.Judging.{settle-refused, settle-solvable, settle-done}
+use Rattle.desk.proofs.Judging.{settle-refused, settle-done}
 use borrow.Author.Needs.{needs}
 use Rattle.desk.proofs.settle.Statement.{statement}
 use Rattle.desk.proofs.settle.Tie as tie
 use Rattle.desk.proofs.settle.Reads as reads
 use Rattle.desk.proofs.settle.Lts as lts
-use Rattle.desk.proofs.judge.Reads as judge-reads
 use Rattle.solver.proofs.solve.Reads as solve-reads
 
--- src/lib.rt:160:9
-judge-requires : tie.Need-judge-requires
-judge-requires c κs = search needs
+solve-requires : tie.Need-solve-requires
+solve-requires c κs = search needs
 
 enum-told : tie.Need-enum-told
 enum-told c = search needs
@@ -22,14 +20,10 @@ enum-told-2 c = search needs
 returns : tie.Need-returns
 returns c = search (settle-refused)
 
--- src/lib.rt:170:9
-solve-requires : tie.Need-solve-requires
-solve-requires c κs = search (settle-solvable)
-
 -- src/lib.rt:156:1
 returns-2 : tie.Need-returns-2
 returns-2 c = search (settle-done)
 
 pub settle-spec : {M : Type 1} → statement M
 settle-spec =
-    tie.close (tie.spec judge-requires enum-told enum-told-2 returns solve-requires returns-2)
+    tie.close (tie.spec solve-requires enum-told enum-told-2 returns returns-2)

@@ -11,8 +11,11 @@ found-with-requires c κs = search needs
 budget-at-requires : tie.Need-budget-at-requires
 budget-at-requires c κs = search (proves-settled)
 
+no-path-requires : tie.Need-no-path-requires
+no-path-requires c κs = search needs
+
 returns : tie.Need-returns
 returns c = search (proves-solves)
 
 pub solve-laid-spec : {M : Type 1} → statement M
-solve-laid-spec = tie.close (tie.spec found-with-requires budget-at-requires returns)
+solve-laid-spec = tie.close (tie.spec found-with-requires budget-at-requires no-path-requires returns)

@@ -18,7 +18,10 @@ returns : tie.Need-returns
 returns c = search (decided-early)
 
 sweeps-requires : tie.Need-sweeps-requires
-sweeps-requires c κs = (search (priced-fair), search (rounded-within))
+sweeps-requires c κs = (priced-fair _ _ _ _ _ _ _ _ _ _ _ _ (search needs) (c .before .before .before .before .before .before .before .before .before .before .before .prices .ensures) (c .before .before .before .before .before .before .before .before .before .before .before .before .before .before .before .before .pre .1 .1), search (rounded-within))
+
+wrapping-add-u32-requires : tie.Need-wrapping-add-u32-requires
+wrapping-add-u32-requires c κs = search needs
 
 returns-2 : tie.Need-returns-2
 returns-2 c = search (decided-yes)
@@ -35,5 +38,6 @@ decide-spec =
     rounds-requires
     returns
     sweeps-requires
+    wrapping-add-u32-requires
     returns-2
     returns-3)

@@ -2,8 +2,8 @@
 -- Assumes nothing.
 use Rattle.solver.proofs.Solving.{taken-proves}
 use borrow.Author.Needs.{needs}
-use Rattle.solver.proofs.found_with.Statement.{statement}
-use Rattle.solver.proofs.found_with.Tie as tie
+use Rattle.solver.proofs.finding.found_with.Statement.{statement}
+use Rattle.solver.proofs.finding.found_with.Tie as tie
 
 arcs-at-nodes-requires : tie.Need-arcs-at-nodes-requires
 arcs-at-nodes-requires c κs = search needs

@@ -21,7 +21,7 @@ use Rattle.cone.proofs.Loops.{loop-said-once, loop-free-ranked}
 use Rattle.board.proofs.Lawful.{lawful}
 use Rattle.slow.specs.Slow.{FastestEnds, LastPart, Walked}
 use Rattle.slow.proofs.PathLaws.{last-once, walked-once}
-use Rattle.desk.specs.Held.{Verdict, looped, slow, fine}
+use Rattle.solver.specs.Verdict.{Verdict, looped, slow, fine}
 
 module _ (b : Board) (w : WellFormed b) where
   -- "9, 10": a loop comes first

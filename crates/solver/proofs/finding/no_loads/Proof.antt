@@ -1,9 +1,9 @@
 -- `solver::no_loads` meets its contract.
 -- Assumes nothing.
 use mathlib.Core.Path.{refl}
-use Rattle.solver.specs.Steps.{noLoads}
-use Rattle.solver.proofs.no_loads.Statement.{statement}
-use Rattle.solver.proofs.no_loads.Tie as tie
+use Rattle.solver.specs.Solve.{noLoads}
+use Rattle.solver.proofs.finding.no_loads.Statement.{statement}
+use Rattle.solver.proofs.finding.no_loads.Tie as tie
 
 returns : tie.Need-returns
 unfolding noLoads

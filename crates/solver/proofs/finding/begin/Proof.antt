@@ -4,8 +4,8 @@ use Prim.Native.Nat.{_-_, _≤_}
 use Rattle.solver.specs.Steps.{Placing}
 use Rattle.solver.proofs.Steps.{place-none, place-more, place-done}
 use borrow.Author.Needs.{needs}
-use Rattle.solver.proofs.begin.Statement.{statement}
-use Rattle.solver.proofs.begin.Tie as tie
+use Rattle.solver.proofs.finding.begin.Statement.{statement}
+use Rattle.solver.proofs.finding.begin.Tie as tie
 
 abbrev Inv-loop : tie.InvT-loop
 Inv-loop due t₀ start end most₀ k₀ t most k = (k ≤ 64) × Placing start end due k t most

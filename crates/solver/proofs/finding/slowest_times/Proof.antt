@@ -2,8 +2,8 @@
 -- Assumes nothing.
 use Rattle.solver.proofs.Solving.{slowest-able, slowest-begun}
 use borrow.Author.Needs.{needs}
-use Rattle.solver.proofs.slowest_times.Statement.{statement}
-use Rattle.solver.proofs.slowest_times.Tie as tie
+use Rattle.solver.proofs.finding.slowest_times.Statement.{statement}
+use Rattle.solver.proofs.finding.slowest_times.Tie as tie
 
 slowest-delays-requires : tie.Need-slowest-delays-requires
 slowest-delays-requires c κs = search needs

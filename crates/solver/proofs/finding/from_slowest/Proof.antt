@@ -2,8 +2,8 @@
 -- Assumes nothing.
 use Rattle.solver.proofs.Solving.{due-small, laid-wide, begun-good, crashed-proves}
 use borrow.Author.Needs.{needs}
-use Rattle.solver.proofs.from_slowest.Statement.{statement}
-use Rattle.solver.proofs.from_slowest.Tie as tie
+use Rattle.solver.proofs.finding.from_slowest.Statement.{statement}
+use Rattle.solver.proofs.finding.from_slowest.Tie as tie
 
 slowest-times-requires : tie.Need-slowest-times-requires
 slowest-times-requires c κs = search needs
@@ -17,10 +17,13 @@ crash-requires c κs = (search (laid-wide), search (begun-good))
 decide-requires : tie.Need-decide-requires
 decide-requires c κs = search (due-small)
 
+wrapping-add-u32-requires : tie.Need-wrapping-add-u32-requires
+wrapping-add-u32-requires c κs = search needs
+
 returns : tie.Need-returns
-returns c = crashed-proves _ _ _ _ _ _ _ _ (c .before .before .before .before .before .before .before .before .pre) _ _ (c .before .before .before .before .before .before .before .slowest-times .ensures) (c .before .before .before .before .before .before .no-loads .ensures) _ _ (c .before .before .before .crash .ensures) _ _ (c .decide .ensures)
+returns c = search (crashed-proves)
 
 pub from-slowest-spec : {M : Type 1} → statement M
 from-slowest-spec =
     tie.close
-    (tie.spec slowest-times-requires no-loads-requires crash-requires decide-requires returns)
+    (tie.spec slowest-times-requires no-loads-requires crash-requires decide-requires wrapping-add-u32-requires returns)

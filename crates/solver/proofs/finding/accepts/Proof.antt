@@ -2,8 +2,8 @@
 -- Assumes nothing.
 use Rattle.solver.proofs.Solving.{due-small, not-taken, judged}
 use borrow.Author.Needs.{needs}
-use Rattle.solver.proofs.accepts.Statement.{statement}
-use Rattle.solver.proofs.accepts.Tie as tie
+use Rattle.solver.proofs.finding.accepts.Statement.{statement}
+use Rattle.solver.proofs.finding.accepts.Tie as tie
 
 conserves-requires : tie.Need-conserves-requires
 conserves-requires c κs = search needs
