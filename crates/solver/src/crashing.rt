@@ -1,4 +1,4 @@
-// The main loop of the solver: from times that are too late down to the deadline. Labels grow from the sink; where they reach the source load is
+// The room of the main loop: from times that are too late down to the deadline. Labels grow from the sink; where they reach the source load is
 // pushed, else the labelled nodes go down.
 use crate::Work;
 use crate::labelling;

@@ -1,4 +1,5 @@
-// The first times that fit given loads and end at the deadline, or the word that there are none: loads that conserve and have such times prove them cheapest.
+// The room of first times: those that fit given loads and end at the deadline, or the word that there are none. Loads that conserve and have such times
+// prove them cheapest.
 use crate::network;
 ghost use mathlib.Core.Path.{_≡_};
 ghost use Prim.Native.Nat.{_≤_, _<_};

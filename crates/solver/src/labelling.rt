@@ -1,4 +1,4 @@
-// Labels of nodes, from the sink backwards along arcs whose load can be changed.
+// The room of labels: nodes are labelled from the sink backwards, along arcs whose load can be changed.
 use crate::network;
 ghost use mathlib.Core.Path.{_≡_};
 ghost use Prim.Native.Nat.{_+_, _≤_, _<_};

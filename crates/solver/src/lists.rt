@@ -1,4 +1,4 @@
-// Lists of the arcs at each node, and an order of arcs, which make for quick work. Any will do, so nothing is said of them.
+// The room of the lists: the arcs at each node, and an order of arcs, which make for quick work. Any will do, so nothing is said of them.
 use board::Board;
 ghost use Prim.Native.Nat.{_≤_, _<_};
 ghost use Rattle.solver.specs.Solve.{Solvable};

@@ -1,4 +1,4 @@
-// Loads of a network of arcs: what they ask of the times, and whether they are a sheet.
+// The room of prices: what loads of a network of arcs ask of the times, and whether they are a sheet.
 // Nodes: the start of part p is p, its end 64 + p, the source 128, the sink 129.
 ghost use mathlib.Core.Path.{_≡_};
 ghost use Prim.Native.Nat.{min, max, _+_, _≤_, _<_};

@@ -1,4 +1,4 @@
-// Load that is pushed from the source to the sink, along the way that the labels show.
+// The room of pushes: load is pushed from the source to the sink, along the way that the labels show.
 use crate::network;
 ghost use Prim.Native.Nat.{_<_};
 ghost use Rattle.theory.specs.Sum.{cells};

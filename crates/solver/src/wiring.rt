@@ -1,4 +1,4 @@
-// A board's network: its parts, links, entries and exits as arcs in arrays that the solver lends.
+// The room of the wiring: a board's parts, links, entries and exits as arcs of a network, in arrays that are lent.
 use crate::network;
 use board::Board;
 ghost use Prim.Native.Nat.{_+_, _<_};
