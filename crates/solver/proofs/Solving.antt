@@ -42,7 +42,7 @@ use Rattle.solver.specs.Solve.{noBudget, noLoads, refusedOf, Reason, Sol
 use Rattle.times.specs.declared.Schedule.{Schedule}
 use Rattle.times.specs.Times.{slowestsOf, Timeable, TimesOf}
 use Rattle.times.proofs.TimesLaws.{slowest-timeable}
-use Rattle.solver.specs.Steps.{Settled, Begun, Slowest, Proves, Accepts, Laid}
+use Rattle.solver.specs.Steps.{Budgeted, Begun, Slowest, Proves, Accepts, Prepared}
 use Rattle.solver.proofs.Slowest.{slowest-good}
 
 -- times that agree are slack with the same loads
@@ -116,7 +116,7 @@ module _ (b : Board) (can : Solvable b) (N : Net) (w : Wired (view b) N) (t x : 
   held : Held (view b) (usable b) τ
   held = first-held (view b) (lawful b (can .formed)) N w (usable b) (cells x) (cells t) f (s .balanced)
 
-  pub first-settled : Settled b t
+  pub first-settled : Budgeted b t
   first-settled = record { formed = can .formed; budget = held .budget }
 
   first-holds : (r : Budget) → r ≡ valueOf b τ → Holds b r
@@ -157,7 +157,7 @@ module _ (b : Board) (can : Solvable b) (arcs : ℕ) (tail head base lengths sav
   wide = record { sound = n .sound; curved = n .curved; world = world }
 
 -- ---- the ways through the code
-module _ (b : Board) (arcs : ℕ) (tail head base lengths savings : List ℕ) (due : ℕ) (ok : Laid b arcs tail head base lengths savings due) where
+module _ (b : Board) (arcs : ℕ) (tail head base lengths savings : List ℕ) (due : ℕ) (ok : Prepared b arcs tail head base lengths savings due) where
   abbrev M : Net
   M = netOf arcs tail head base lengths savings
 
@@ -179,7 +179,7 @@ module _ (b : Board) (arcs : ℕ) (tail head base lengths savings : List ℕ) (d
       first-of : First M (usable b) (cells x) (cells t)
       first-of = rw (ok .due-is) at (p .first)
 
-      pub proves-settled : Settled b t
+      pub proves-settled : Budgeted b t
       proves-settled = first-settled b (ok .can) M (ok .network .wired) t x first-of (p .sheet)
 
       pub proves-solves :

@@ -19,7 +19,7 @@ use Rattle.times.proofs.TableLaws.{table-ext, firsts-none, firsts-more, firsts-
 use Rattle.budget.specs.declared.Budget.{Budget}
 use Rattle.budget.specs.Made.{Placed, budgetOf, valueOf}
 use Rattle.solver.specs.Wired.{timesOf}
-use Rattle.solver.specs.Steps.{nodesFrom, Settled, Placing, Begun}
+use Rattle.solver.specs.Steps.{nodesFrom, Budgeted, Placing, Begun}
 
 -- ---- nodes_from
 module _ (t : List ℕ) (first : ℕ) where
@@ -35,7 +35,7 @@ module _ (t : List ℕ) (first : ℕ) where
   nodes-done xs k n = finished (λ i. nodesFrom t first i)
 
 -- ---- budget_at
-module _ (b : Board) (t : List ℕ) (ok : Settled b t) (start end : List ℕ) (is : start ≡ nodesFrom t 0 (b .parts)) (ie : end ≡ nodesFrom t 64 (b .parts)) where
+module _ (b : Board) (t : List ℕ) (ok : Budgeted b t) (start end : List ℕ) (is : start ≡ nodesFrom t 0 (b .parts)) (ie : end ≡ nodesFrom t 64 (b .parts)) where
   start-is : (p : ℕ) → p < b .parts → cells start p ≡ cells t p
   unfolding nodesFrom
   start-is p h =

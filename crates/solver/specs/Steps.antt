@@ -21,7 +21,7 @@ unfoldable pub nodesFrom : List ℕ → ℕ → ℕ → List ℕ
 nodesFrom t first n = firsts n (λ p. cells t (first + p))
 
 -- the times of nodes are a budget of the board
-pub record Settled (b : Board) (t : List ℕ) : Type 0 where
+pub record Budgeted (b : Board) (t : List ℕ) : Type 0 where
   pub formed : WellFormed b
   pub budget : Budget (view b) (usable b) (timesOf (view b) (cells t))
 
@@ -56,7 +56,7 @@ pub record Accepts (N : Net) (due : ℕ) (x t : List ℕ) (r : Bool) : Type 0 wh
   pub taken : r ≡ true → Proves N due x t
 
 -- arrays that hold the network of a board that can be solved
-pub record Laid (b : Board) (arcs : ℕ) (tail head base lengths savings : List ℕ) (due : ℕ) : Type 0 where
+pub record Prepared (b : Board) (arcs : ℕ) (tail head base lengths savings : List ℕ) (due : ℕ) : Type 0 where
   pub can : Solvable b
   pub network : NetworkOf b arcs tail head base lengths savings
   pub due-is : due ≡ usable b

@@ -10,7 +10,7 @@ ghost use mathlib.Core.Path.{_≡_};
 ghost use Prim.Native.Nat.{max};
 ghost use Rattle.solver.specs.Net.{netOf};
 ghost use Rattle.solver.specs.Solve.{noLoads, Solvable};
-ghost use Rattle.solver.specs.Steps.{Begun, Slowest, Proves, Accepts, Laid};
+ghost use Rattle.solver.specs.Steps.{Begun, Slowest, Proves, Accepts, Prepared};
 
 // ---- times of nodes
 pub(crate) fn no_loads() -> [u32; 448]
@@ -71,7 +71,7 @@ fn accepts(
     advice: &[u32; 448],
     t: &mut [u32; 130],
 ) -> Decision
-    requires { ⌜ Laid b arcs (now tail) (now head) (now base) (now lengths) (now savings) due ⌝ }
+    requires { ⌜ Prepared b arcs (now tail) (now head) (now base) (now lengths) (now savings) due ⌝ }
     ensures { λ r. ⌜ Accepts (netOf arcs (now (tail .entry)) (now (head .entry)) (now (base .entry)) (now (lengths .entry)) (now (savings .entry))) due (now (advice .entry)) (now (t .exit)) (r .fits) ⌝ }
 {
     if !network::conserves(arcs, tail, head, advice) {
@@ -117,7 +117,7 @@ fn from_slowest(
     due: u32,
     looked: u32,
 ) -> Found
-    requires { ⌜ Laid b arcs (now tail) (now head) (now base) (now lengths) (now savings) due ⌝ }
+    requires { ⌜ Prepared b arcs (now tail) (now head) (now base) (now lengths) (now savings) due ⌝ }
     ensures { λ r. ⌜ Proves (netOf arcs (now (tail .entry)) (now (head .entry)) (now (base .entry)) (now (lengths .entry)) (now (savings .entry))) due (r .loads) (r .times) ⌝ }
 {
     let mut late = slowest_times(b, due);
@@ -171,7 +171,7 @@ pub(crate) fn found_with(
     due: u32,
     advice: [u32; 448],
 ) -> Found
-    requires { ⌜ Laid b arcs (now tail) (now head) (now base) (now lengths) (now savings) due ⌝ }
+    requires { ⌜ Prepared b arcs (now tail) (now head) (now base) (now lengths) (now savings) due ⌝ }
     ensures { λ r. ⌜ Proves (netOf arcs (now (tail .entry)) (now (head .entry)) (now (base .entry)) (now (lengths .entry)) (now (savings .entry))) due (r .loads) (r .times) ⌝ }
 {
     let lists = lists::arcs_at_nodes(arcs, tail, head);

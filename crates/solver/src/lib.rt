@@ -23,7 +23,7 @@ ghost use Rattle.board.specs.Board.{WellFormed, view, usable};
 ghost use Rattle.budget.specs.Made.{valueOf};
 ghost use Rattle.solver.specs.Wired.{timesOf};
 ghost use Rattle.solver.specs.Solve.{noBudget, refusedOf, Solvable, Solves};
-ghost use Rattle.solver.specs.Steps.{nodesFrom, Settled, Laid};
+ghost use Rattle.solver.specs.Steps.{nodesFrom, Budgeted, Prepared};
 
 // What was done: pushes and lowerings of the main loop, and rounds over the arcs for the first times. Each count goes on from 0 past its type's end.
 pub struct Work {
@@ -67,7 +67,7 @@ fn nodes_from(t: &[u32; 130], first: usize, n: usize) -> [u32; 64]
 
 // The budget that the times of nodes are.
 fn budget_at(b: Board, t: &[u32; 130]) -> Budget
-    requires { ⌜ Settled b (now t) ⌝ }
+    requires { ⌜ Budgeted b (now t) ⌝ }
     ensures { λ r. ⌜ r ≡ valueOf b (timesOf (view b) (cells (now (t .entry)))) ⌝ }
 {
     let start = nodes_from(t, 0, b.parts);
@@ -88,7 +88,7 @@ fn solve_laid(
     due: u32,
     advice: [u32; 448],
 ) -> Solved
-    requires { ⌜ Laid b arcs (now tail) (now head) (now base) (now lengths) (now savings) due ⌝ }
+    requires { ⌜ Prepared b arcs (now tail) (now head) (now base) (now lengths) (now savings) due ⌝ }
     ensures { λ r. ⌜ Solves b r ⌝ }
 {
     let found = finding::found_with(b, arcs, tail, head, base, lengths, savings, due, advice);

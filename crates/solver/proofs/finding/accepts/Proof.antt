@@ -1,4 +1,4 @@
--- `solver::accepts` meets its contract.
+-- `finding::accepts` meets its contract.
 -- Assumes nothing.
 use Rattle.solver.proofs.Solving.{due-small, not-taken, judged}
 use borrow.Author.Needs.{needs}

@@ -1,4 +1,4 @@
--- `solver::begin` meets its contract.
+-- `finding::begin` meets its contract.
 -- Assumes nothing.
 use Prim.Native.Nat.{_-_, _≤_}
 use Rattle.solver.specs.Steps.{Placing}

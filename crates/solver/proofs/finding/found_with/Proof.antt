@@ -1,4 +1,4 @@
--- `solver::found_with` meets its contract.
+-- `finding::found_with` meets its contract.
 -- Assumes nothing.
 use Rattle.solver.proofs.Solving.{taken-proves}
 use borrow.Author.Needs.{needs}

@@ -1,4 +1,4 @@
--- `solver::from_slowest` meets its contract.
+-- `finding::from_slowest` meets its contract.
 -- Assumes nothing.
 use Rattle.solver.proofs.Solving.{due-small, laid-wide, begun-good, crashed-proves}
 use borrow.Author.Needs.{needs}

@@ -1,4 +1,4 @@
--- `solver::no_loads` meets its contract.
+-- `finding::no_loads` meets its contract.
 -- Assumes nothing.
 use mathlib.Core.Path.{refl}
 use Rattle.solver.specs.Solve.{noLoads}

@@ -1,4 +1,4 @@
--- `solver::slowest_times` meets its contract.
+-- `finding::slowest_times` meets its contract.
 -- Assumes nothing.
 use Rattle.solver.proofs.Solving.{slowest-able, slowest-begun}
 use borrow.Author.Needs.{needs}

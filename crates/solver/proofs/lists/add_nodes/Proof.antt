@@ -1,4 +1,4 @@
--- `solver::add_nodes` meets its contract.
+-- `lists::add_nodes` meets its contract.
 -- Assumes nothing.
 use Prim.Native.Nat.{_-_, _≤_}
 use borrow.Author.Needs.{needs}

@@ -1,4 +1,4 @@
--- `solver::arcs_at_nodes` meets its contract.
+-- `lists::arcs_at_nodes` meets its contract.
 -- Assumes nothing.
 use borrow.Author.Needs.{needs}
 use Rattle.solver.proofs.lists.arcs_at_nodes.Statement.{statement}

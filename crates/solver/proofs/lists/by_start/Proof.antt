@@ -1,4 +1,4 @@
--- `solver::by_start` meets its contract.
+-- `lists::by_start` meets its contract.
 -- Assumes nothing.
 use Prim.Native.Nat.{_-_, _≤_}
 use borrow.Author.Needs.{needs}

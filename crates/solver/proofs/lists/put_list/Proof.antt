@@ -1,4 +1,4 @@
--- `solver::put_list` meets its contract.
+-- `lists::put_list` meets its contract.
 -- Assumes nothing.
 use Prim.Native.Nat.{_-_, _≤_}
 use borrow.Author.Needs.{needs}

@@ -1,4 +1,4 @@
--- `solver::slowest_order` meets its contract.
+-- `lists::slowest_order` meets its contract.
 -- Assumes nothing.
 use Rattle.solver.proofs.Solving.{slowest-able}
 use borrow.Author.Needs.{needs}
