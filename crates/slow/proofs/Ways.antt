@@ -2,14 +2,11 @@
 -- Assumes nothing.
 use mathlib.Core.Path.{_≡_, refl, sym, ap, _∙_}
 use mathlib.Core.List.{List, []}
-use Prim.Native.Nat.{ℕ, zero, suc, min, _+_, _*_, _-_, _%_, _≤_, _<_}
+use Prim.Native.Nat.{ℕ, zero, suc, min, _+_, _-_, _%_, _≤_, _<_}
 use native.Mathlib.Omega.{arith}
-use native.Mathlib.Nat.{mul-le-mul-left}
 use native.Mathlib.Numerals.{add-one, sub-one}
 use lib.Dec.{eqb, ltb}
 use lib.ListN.{getD, set}
-use mir.Syntax.{w64}
-use mir.Val.{Fits}
 use borrow.Author.Tests.{le-leb, lt-leb, eq-eqb, ne-eqb}
 use Rattle.base.specs.Pick.{pick}
 use Rattle.base.proofs.Cases.{finished, pick-elim}
@@ -20,10 +17,6 @@ use Rattle.times.specs.Times.{table, wireOf, Joined}
 use Rattle.times.proofs.TableLaws.{table-at, table-set}
 use Rattle.slow.specs.declared.Trail.{Trail}
 use Rattle.slow.specs.Walk.{lastOf, backOf, backsOf, trailOf, pushedOf, walkOf}
-
--- an index of 64 places, scaled by the width of an element
-pub scaled : (w i : ℕ) → w ≤ 16 → i < 64 → Fits w64 (i * w)
-scaled w i narrow h = omega (arith, mul-le-mul-left i narrow)
 
 -- ---- last_part
 module _ (e : List ℕ) where

@@ -1,14 +1,18 @@
 -- The ways through the loops of a round: the starts by the links, the ends of the parts, and whether a round changed nothing.
 -- Assumes nothing.
 use mathlib.Core.Path.{_≡_, refl, sym, ap, _∙_}
-use mathlib.Core.Bool.{true, false}
+use mathlib.Core.Bool.{Bool, true, false, not}
 use mathlib.Core.List.{List}
-use Prim.Native.Nat.{ℕ, suc, max, min, _+_, _%_, _≤_, _<_}
+use Prim.Native.Nat.{ℕ, suc, max, min, _+_, _*_, _≤_, _<_}
 use native.Mathlib.Omega.{arith}
 use native.Mathlib.Numerals.{add-one}
+use native.Mathlib.Nat.{mul-le-mul-left}
 use lib.ListN.{length, getD, set}
 use lib.Seq.{ext-getD}
+use mir.Syntax.{w64}
+use mir.Val.{Fits}
 use borrow.Author.Count.{below-more}
+use borrow.Author.Tests.{not-false}
 use Rattle.base.proofs.Cases.{finished}
 use Rattle.theory.specs.Sum.{cells}
 use Rattle.theory.specs.Budget.{greatest}
@@ -19,7 +23,8 @@ use Rattle.curve.proofs.CurveLaws.{slowest-to}
 use Rattle.board.specs.declared.Link.{Link}
 use Rattle.board.specs.declared.Board.{Board}
 use Rattle.board.specs.Board.{noLink, curveAt, view, WellFormed}
-use Rattle.times.specs.Times.{table, firsts, fastestsOf, slowestAt, slowestsOf, wireOf, arrivalOf, startsOf, endsOf, Joined, Summed, Same}
+use Rattle.board.specs.Tests.{Decides}
+use Rattle.times.specs.Times.{table, firsts, fastestsOf, slowestAt, slowestsOf, wireOf, arrivalOf, startsOf, endsOf, InPlaces, Joined, Summed, Same}
 use Rattle.times.proofs.TableLaws.{table-at, table-set, firsts-none, firsts-more, firsts-cut, firsts-done}
 
 -- no link takes more than 255 ticks
@@ -31,28 +36,59 @@ pub wire-at : (b : Board) (l : ℕ) → view b .wire l ≤ 255
 unfolding view
 wire-at b l = omega arith
 
--- ---- starts
+-- an index of 64 places, scaled by the width of an element
+pub scaled : (w i : ℕ) → w ≤ 16 → i < 64 → Fits w64 (i * w)
+scaled w i narrow h = omega (arith, mul-le-mul-left i narrow)
+
+never : {A : Type 0} → false ≡ true → A
+never q = absurd (let z : _≡_ {A = ℕ} 0 1 = cc in omega arith)
+
+-- ---- in_places
+module _ (link : List Link) where
+  pub places-none : InPlaces link 0
+  places-none = record { from-in = λ l h. absurd (omega arith); to-in = λ l h. absurd (omega arith) }
+
+  pub places-more : (k : ℕ) → InPlaces link k → getD link k noLink .from < 64 → getD link k noLink .to < 64 → InPlaces link (k + 1)
+  places-more k so-far from to = record { from-in = below-more _ k (so-far .from-in) from; to-in = below-more _ k (so-far .to-in) to }
+
+  module _ (n k : ℕ) where
+    pub from-outside : k < n → 64 ≤ getD link k noLink .from → Decides false (InPlaces link n)
+    from-outside h out = record { yes = never; no = λ in-places. absurd (omega (arith, in-places .from-in k h)) }
+
+    pub to-outside : k < n → 64 ≤ getD link k noLink .to → Decides false (InPlaces link n)
+    to-outside h out = record { yes = never; no = λ in-places. absurd (omega (arith, in-places .to-in k h)) }
+
+    pub places-done : k ≤ n → n ≤ k → InPlaces link k → Decides true (InPlaces link n)
+    places-done l h all = let same : n ≡ k = omega arith in record { yes = λ _. rw same all; no = λ _. refl }
+
+  pub places-hold : (n : ℕ) (t : Bool) → Decides t (InPlaces link n) → not t ≡ false → InPlaces link n
+  places-hold n t test passes = test .yes (not-false t passes)
+
+  -- ---- starts
+  pub from-below : (n : ℕ) → InPlaces link n → (k : ℕ) → k < n → getD link k noLink .from < 64
+  from-below n ok = ok .from-in
+
+  pub to-below : (n : ℕ) → InPlaces link n → (k : ℕ) → k < n → getD link k noLink .to < 64
+  to-below n ok = ok .to-in
+
 pub starts-none : (link : List Link) (e s : List ℕ) → s ≡ table 64 (λ p. 0) → s ≡ startsOf link 0 e
 unfolding startsOf arrivalOf greatest
 starts-none link e s is = is
 
 module _ (link : List Link) (n : ℕ) (e s : List ℕ) (k : ℕ) (h : k < n) where
-  pub starts-more : (w : ℕ) (arrival : Ticks) (v : ℕ) → w ≡ wireOf (getD link k noLink) → arrival .0 ≡ min (getD e (getD link k noLink .from % 64) 0 + w) 4294967295
-      → v ≡ max (getD s (getD link k noLink .to % 64) 0) (arrival .0) → (Joined link n e → s ≡ startsOf link k e) → Joined link n e
-      → set s (getD link k noLink .to % 64) v ≡ startsOf link (k + 1) e
+  pub starts-more : (w : ℕ) (arrival : Ticks) (v : ℕ) → w ≡ wireOf (getD link k noLink) → arrival .0 ≡ min (getD e (getD link k noLink .from) 0 + w) 4294967295
+      → v ≡ max (getD s (getD link k noLink .to) 0) (arrival .0) → (Joined link n e → s ≡ startsOf link k e) → Joined link n e
+      → set s (getD link k noLink .to) v ≡ startsOf link (k + 1) e
   unfolding startsOf arrivalOf greatest
   starts-more w arrival v isw isa isv before ok =
       let t = getD link k noLink .to in
       let f = getD link k noLink .from in
       let a = cells e f + wireOf (getD link k noLink) in
       let is = before ok in
-      let t-is : t % 64 ≡ t = omega (arith, ok .to-in k h) in
-      let f-is : f % 64 ≡ f = omega (arith, ok .from-in k h) in
-      let a-is : arrival .0 ≡ a = isa ∙ rw (f-is, isw) (omega (arith, ok .ends-to f (ok .from-in k h), wire-to (getD link k noLink))) in
-      let v-is : v ≡ max (getD s t 0) a = isv ∙ rw (t-is, a-is) in
-      rw (add-one, t-is, is)
+      let a-is : arrival .0 ≡ a = isa ∙ rw isw (omega (arith, ok .ends-to f (ok .from-in k h), wire-to (getD link k noLink))) in
+      rw (add-one, is)
       (table-set 64 (arrivalOf link e k) (arrivalOf link e (suc k)) t v (ok .to-in k h)
-      (v-is ∙ rw (is, table-at 64 (arrivalOf link e k) t (ok .to-in k h), share-eq {p = t} a refl))
+      (isv ∙ rw (a-is, is, table-at 64 (arrivalOf link e k) t (ok .to-in k h), share-eq {p = t} a refl))
       (λ j l d. omega (arith, share-ne {p = t} {i = j} a (λ q. d (sym q)))))
 
 pub starts-done : (link : List Link) (e s : List ℕ) (k n : ℕ) → k ≤ n → n ≤ k → (Joined link n e → s ≡ startsOf link k e) → Joined link n e → s ≡ startsOf link n e
@@ -100,9 +136,6 @@ module _ (b : Board) (d : List ℕ) where
   slowest-done n k cut l h is ok = firsts-done _ d k n l h (is ok) ∙ rw cut (firsts-cut _ (b .parts))
 
 -- ---- same
-never : {A : Type 0} → false ≡ true → A
-never q = absurd (let z : _≡_ {A = ℕ} 0 1 = cc in omega arith)
-
 pub record Alike (a b : List ℕ) (k : ℕ) : Type 0 where
   pub below : (j : ℕ) → j < k → getD a j 0 ≡ getD b j 0
 

@@ -3,12 +3,13 @@
 -- Assumes nothing.
 use mathlib.Core.Path.{_≡_, refl, sym, ap, _∙_}
 use mathlib.Core.Logic.{⊎-elim}
-use mathlib.Core.Bool.{Bool, true}
+use mathlib.Core.Bool.{Bool, true, false, not}
 use mathlib.Core.List.{List}
 use Prim.Native.Nat.{ℕ, zero, suc, min, _+_, _*_, _≤_, _<_}
 use native.Mathlib.Omega.{arith}
 use native.Mathlib.Numerals.{add-one}
 use lib.ListN.{length}
+use borrow.Author.Tests.{not-true}
 use Rattle.base.proofs.Cases.{lt-or-le}
 use Rattle.theory.specs.Sum.{cells}
 use Rattle.theory.specs.Budget.{arrive}
@@ -16,9 +17,14 @@ use Rattle.theory.proofs.ArriveLaws.{arrive-le, arrive-ext}
 use Rattle.board.specs.declared.Link.{Link}
 use Rattle.board.specs.declared.Board.{Board}
 use Rattle.board.specs.Board.{linkAt, view, WellFormed}
-use Rattle.times.specs.Times.{table, wireOf, arrivalOf, startsOf, endsOf, Joined, Summed, Same, Timeable, TimesOf}
+use Rattle.board.specs.Tests.{Decides}
+use Rattle.times.specs.declared.Schedule.{Schedule}
+use Rattle.times.specs.Times.{table, wireOf, arrivalOf, startsOf, endsOf, InPlaces, Joined, Summed, Same, Timeable, TimesOf}
 use Rattle.times.proofs.TableLaws.{table-length, table-at, table-past, firsts-at, firsts-past, firsts-room}
 use Rattle.times.proofs.Loops.{wire-at}
+
+true-false : (t : Bool) → t ≡ true → t ≡ false → ⊥
+true-false t p q = let z : _≡_ {A = ℕ} 0 1 = cc in omega arith
 
 -- the ends after some rounds
 unfoldable pub roundOf : List Link → ℕ → ℕ → List ℕ → ℕ → List ℕ
@@ -193,7 +199,17 @@ module _ (link : List Link) (links parts : ℕ) (delay e : List ℕ) where
         is = λ b q₁ q₂ q₃ ok. rw (add-one, ← before .is b q₁ q₂ q₃ ok, ← starts-are b q₁ q₂ q₃ ok) (ends-are b q₁ q₂ q₃ ok);
       }
 
--- ---- its returns: the counts that were cut are the board's own
+-- ---- its returns: a board that can be timed has its links in place, and the counts that were cut are its own
+pub no-places : (b : Board) (delay : List ℕ) (links : ℕ) (t : Bool) → links ≡ min (b .links) 256 → Decides t (InPlaces (b .link) links) → not t ≡ true
+    → (r : Schedule) → Timeable b delay → TimesOf b delay r
+no-places b delay links t cut test fails r ok = absurd (true-false t (test .no places) (not-true t fails))
+  where
+    places : InPlaces (b .link) links
+    places = record {
+      from-in = λ l h. omega (arith, ok .formed .from-in l (omega arith), ok .formed .parts-to);
+      to-in = λ l h. omega (arith, ok .formed .to-in l (omega arith), ok .formed .parts-to);
+    }
+
 module _ (b : Board) (delay : List ℕ) (links parts : ℕ) (links-cut : links ≡ min (b .links) 256) (parts-cut : parts ≡ min (b .parts) 64) (e : List ℕ) (k : ℕ)
     (before : After (b .link) links parts delay e k) (s : List ℕ) (began : Joined (b .link) links e → s ≡ startsOf (b .link) links e) where
   links-are : Timeable b delay → links ≡ b .links

@@ -52,6 +52,11 @@ startsOf link n e = table 64 (arrivalOf link e n)
 unfoldable pub endsOf : List ℕ → List ℕ → ℕ → List ℕ
 endsOf s delay n = firsts n (λ p. cells s p + cells delay p)
 
+-- links that join two of the 64 places
+pub record InPlaces (link : List Link) (n : ℕ) : Type 0 where
+  pub from-in : (l : ℕ) → l < n → getD link l noLink .from < 64
+  pub to-in : (l : ℕ) → l < n → getD link l noLink .to < 64
+
 -- links that join parts of the board, and ends whose arrivals fit
 pub record Joined (link : List Link) (n : ℕ) (e : List ℕ) : Type 0 where
   pub links-to : n ≤ 256

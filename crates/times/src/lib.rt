@@ -1,13 +1,14 @@
 // When parts start and end: in rounds, each from the ends of the round before, until a round changes nothing.
-// Of a board that is not well formed nothing is promised but that the calls end: counts are cut to the places there are, numbers of parts are taken
-// modulo 64, and sums stay within their type.
+// Of a board that is not well formed nothing is promised but that the calls end: counts are cut to the places there are, links are looked at first,
+// and sums stay within their type.
 use board::Board;
 use board::Link;
 use curve::Ticks;
 ghost use mathlib.Core.Path.{_≡_};
 ghost use Prim.Native.Nat.{max, min, _≤_};
 ghost use Rattle.board.specs.Board.{WellFormed};
-ghost use Rattle.times.specs.Times.{table, fastestsOf, slowestsOf, wireOf, startsOf, endsOf, Joined, Summed, Same, Timeable, TimesOf};
+ghost use Rattle.board.specs.Tests.{Decides};
+ghost use Rattle.times.specs.Times.{table, fastestsOf, slowestsOf, wireOf, startsOf, endsOf, InPlaces, Joined, Summed, Same, Timeable, TimesOf};
 
 // The start and the end of each part; places without a part hold 0.
 pub struct Schedule {
@@ -70,17 +71,36 @@ pub fn slowest_delays(b: Board) -> [u32; 64]
     d
 }
 
+// Whether the first `n` links join two of the 64 places: asked once, so that no round need ask.
+fn in_places(link: [Link; 256], n: usize) -> bool
+    requires { ⌜ n ≤ 256 ⌝ }
+    ensures { λ r. ⌜ Decides r (InPlaces link n) ⌝ }
+{
+    let mut k: usize = 0;
+    while k < n {
+        let l = link[k];
+        if 64 <= l.from {
+            return false;
+        }
+        if 64 <= l.to {
+            return false;
+        }
+        k = k + 1;
+    }
+    true
+}
+
 // Each part's start where parts end at `e`: the greatest arrival by the first `n` links, or 0.
 fn starts(link: [Link; 256], n: usize, e: [u32; 64]) -> [u32; 64]
-    requires { ⌜ n ≤ 256 ⌝ }
+    requires { ⌜ (n ≤ 256) × InPlaces link n ⌝ }
     ensures { λ r. ⌜ (Joined link n e → r ≡ startsOf link n e) ⌝ }
 {
     let mut s = zeros();
     let mut k: usize = 0;
     while k < n {
         let l = link[k];
-        let f = l.from % 64;
-        let t = l.to % 64;
+        let f = l.from;
+        let t = l.to;
         let arrival = Ticks(e[f]).plus(Ticks(wire(l)));
         s[t] = larger(s[t], arrival.0);
         k = k + 1;
@@ -125,6 +145,9 @@ pub fn times_of(b: Board, delay: [u32; 64]) -> Schedule
     let links = lesser(b.links, 256);
     let parts = lesser(b.parts, 64);
     let mut e = zeros();
+    if !in_places(link, links) {
+        return Schedule { start: e, end: e };
+    }
     let mut k: usize = 0;
     while k < 65 {
         let s = starts(link, links, e);

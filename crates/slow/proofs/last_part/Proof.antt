@@ -1,6 +1,7 @@
 -- `slow::last_part` meets its contract. The invariant: the last part is that of the first k parts.
 -- Assumes nothing.
-use Rattle.slow.proofs.Ways.{scaled, last-none, last-in, last-more, last-done}
+use Rattle.times.proofs.Loops.{scaled}
+use Rattle.slow.proofs.Ways.{last-none, last-in, last-more, last-done}
 use Rattle.slow.specs.Walk.{lastOf}
 use Prim.Native.Nat.{_≤_, _-_}
 use mathlib.Core.Path.{_≡_}

@@ -1,7 +1,7 @@
 -- `slow::slow_path` meets its contract.
 -- Assumes nothing.
 use Rattle.slow.proofs.SlowWays.{last-place, in-time, too-slow}
-use Rattle.slow.proofs.Ways.{scaled}
+use Rattle.times.proofs.Loops.{scaled}
 use borrow.Author.Needs.{needs}
 use Rattle.slow.proofs.slow_path.Statement.{statement}
 use Rattle.slow.proofs.slow_path.Tie as tie

@@ -1,6 +1,6 @@
 -- `times::starts` meets its contract. The invariant: the starts are those by the first k links.
 -- Assumes nothing.
-use Rattle.times.proofs.Loops.{starts-none, starts-more, starts-done}
+use Rattle.times.proofs.Loops.{scaled, from-below, to-below, starts-none, starts-more, starts-done}
 use Rattle.times.specs.Times.{Joined, startsOf}
 use Prim.Native.Nat.{_≤_, _-_}
 use mathlib.Core.Path.{_≡_}
@@ -33,10 +33,10 @@ array-copy-out-l : tie.Need-array-copy-out-l Inv-loop μ-loop
 array-copy-out-l c = search needs
 
 mul-s : tie.Need-mul-s Inv-loop μ-loop
-mul-s c = search needs
+mul-s c = search (scaled, from-below, to-below, needs)
 
 array-read-s : tie.Need-array-read-s Inv-loop μ-loop
-array-read-s c = search needs
+array-read-s c = search (scaled, from-below, to-below, needs)
 
 wire-requires : tie.Need-wire-requires Inv-loop μ-loop
 wire-requires c κs = search needs
@@ -45,19 +45,19 @@ plus-requires : tie.Need-plus-requires Inv-loop μ-loop
 plus-requires c κs = search needs
 
 mul-larger : tie.Need-mul-larger Inv-loop μ-loop
-mul-larger c = search needs
+mul-larger c = search (scaled, from-below, to-below, needs)
 
 array-read-larger : tie.Need-array-read-larger Inv-loop μ-loop
-array-read-larger c = search needs
+array-read-larger c = search (scaled, from-below, to-below, needs)
 
 larger-requires : tie.Need-larger-requires Inv-loop μ-loop
 larger-requires c κs = search needs
 
 mul-s-2 : tie.Need-mul-s-2 Inv-loop μ-loop
-mul-s-2 c = search needs
+mul-s-2 c = search (scaled, from-below, to-below, needs)
 
 array-write-s : tie.Need-array-write-s Inv-loop μ-loop
-array-write-s c = search needs
+array-write-s c = search (scaled, from-below, to-below, needs)
 
 add-k : tie.Need-add-k Inv-loop μ-loop
 add-k c = search needs
