@@ -205,9 +205,9 @@ module _ (b : Board) (arcs : ℕ) (tail head base lengths savings : List ℕ) (d
           first = crashed-first M due w t₀ x₀ t x c (slow .begun .placed .due-late) u r v;
         }
 
-pub slowest-able : (b : Board) → Solvable b → (d : List ℕ) → d ≡ slowestsOf b → Timeable b d
-slowest-able b can = slowest-timeable b (can .formed) (can .ranked)
-
-pub slowest-begun : (b : Board) (due : ℕ) (d : List ℕ) → d ≡ slowestsOf b → (s : Schedule) → TimesOf b d s → (t : List ℕ) → Begun (s .start) (s .end) due t →
-    Slowest b due t
-slowest-begun b due d is s timed t begun = record { schedule = s; timed = rw is at timed; begun = begun }
+pub slowest-begun :
+    (b : Board) → Solvable b → (due : ℕ) (d : List ℕ) → (WellFormed b → d ≡ slowestsOf b) → (s : Schedule) → (Timeable b d → TimesOf b d s) →
+    (t : List ℕ) → Begun (s .start) (s .end) due t → Slowest b due t
+slowest-begun b can due d said s timed t begun =
+    let is : d ≡ slowestsOf b = said (can .formed) in
+    record { schedule = s; timed = rw is at (timed (slowest-timeable b (can .formed) (can .ranked) d is)); begun = begun }

@@ -46,7 +46,7 @@ module _ (b : Board) (t : List ℕ) (ok : Budgeted b t) (start end : List ℕ) (
   unfolding nodesFrom
   end-is p h = rw ie (firsts-at (λ q. cells t (64 + q)) (b .parts) (ok .formed .parts-to) p h)
 
-  pub settled-placed : Placed b start end
+  settled-placed : Placed b start end
   unfolding view slowestOf
   settled-placed = record {
     formed = ok .formed;
@@ -57,12 +57,12 @@ module _ (b : Board) (t : List ℕ) (ok : Budgeted b t) (start end : List ℕ) (
     };
   }
 
-  pub settled-value : (r : Budget) → r ≡ budgetOf b start end → r ≡ valueOf b (timesOf (view b) (cells t))
+  pub settled-value : (r : Budget) → (Placed b start end → r ≡ budgetOf b start end) → r ≡ valueOf b (timesOf (view b) (cells t))
   unfolding valueOf nodesFrom firsts
-  settled-value r e =
+  settled-value r said =
       let s : start ≡ firsts (b .parts) (cells t) =
       is ∙ table-ext 64 _ _ (λ p h. ap (λ v. pick (ltb p (b .parts)) v 0) (ap (cells t) (let z : 0 + p ≡ p = omega arith in z))) in
-      e ∙ ap (λ (l : List ℕ). budgetOf b l end) s ∙ ap (λ (l : List ℕ). budgetOf b (firsts (b .parts) (cells t)) l) ie
+      said settled-placed ∙ ap (λ (l : List ℕ). budgetOf b l end) s ∙ ap (λ (l : List ℕ). budgetOf b (firsts (b .parts) (cells t)) l) ie
 
 -- ---- begin
 module _ (start end : List ℕ) (due : ℕ) (t : List ℕ) where

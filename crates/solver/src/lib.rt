@@ -19,7 +19,7 @@ ghost use mathlib.Core.Path.{_≡_};
 ghost use Prim.Native.Nat.{_+_, _≤_};
 ghost use Rattle.theory.specs.Sum.{cells};
 ghost use Rattle.refusal.specs.declared.Answer.the-variants.{Refused};
-ghost use Rattle.board.specs.Board.{WellFormed, view, usable};
+ghost use Rattle.board.specs.Board.{WellFormed, view};
 ghost use Rattle.budget.specs.Made.{valueOf};
 ghost use Rattle.solver.specs.Wired.{timesOf};
 ghost use Rattle.solver.specs.Solve.{noBudget, refusedOf, Solvable, Solves};
@@ -43,13 +43,6 @@ pub struct Solved {
 }
 
 // ---- the budget of times of nodes
-// The ticks that a path may take.
-fn allowed(b: Board) -> u32
-    ensures { λ r. ⌜ r ≡ usable b ⌝ }
-{
-    b.deadline.0
-}
-
 // The times of `n` nodes from node `first` on.
 fn nodes_from(t: &[u32; 130], first: usize, n: usize) -> [u32; 64]
     requires { ⌜ first ≤ 64 ⌝ }
@@ -123,7 +116,7 @@ fn solve_possible(b: Board, advice: [u32; 448]) -> Solved
         &mut lengths,
         &mut savings,
     );
-    let due = allowed(b);
+    let due = board::usable_deadline(b);
     solve_laid(
         b,
         arcs,

@@ -1,6 +1,6 @@
 -- `solver::budget_at` meets its contract.
 -- Assumes nothing.
-use Rattle.solver.proofs.Steps.{settled-placed, settled-value}
+use Rattle.solver.proofs.Steps.{settled-value}
 use borrow.Author.Needs.{needs}
 use Rattle.solver.proofs.budget_at.Statement.{statement}
 use Rattle.solver.proofs.budget_at.Tie as tie
@@ -12,7 +12,7 @@ nodes-from-requires-2 : tie.Need-nodes-from-requires-2
 nodes-from-requires-2 c κs = search needs
 
 budget-of-requires : tie.Need-budget-of-requires
-budget-of-requires c κs = search (settled-placed)
+budget-of-requires c κs = search needs
 
 returns : tie.Need-returns
 returns c = search (settled-value)

@@ -25,7 +25,7 @@ off-on : {A : Type 0} {t : Bool} → t ≡ false → t ≡ true → A
 off-on off on = absurd (let z : _≡_ {A = ℕ} 0 1 = cc in omega arith)
 
 -- ---- `judge_time`
-pub timely-loopless : (b : Board) → Timely b → Loopless b
+timely-loopless : (b : Board) → Timely b → Loopless b
 timely-loopless b ok = record { formed = ok .formed; ranked = loop-free-ranked b (ok .formed) (ok .free) }
 
 in-time-no : (s : ShownPath) → s ≡ inTime → s .slow ≡ false
@@ -45,14 +45,21 @@ unfolding shown trailOf
 shown-trail s ticks path is = rw is
 
 module _ (b : Board) (ok : Timely b) (s : ShownPath) where
-  pub in-time : (p : Trail) → SlowOf b s → not (s .slow) ≡ true → p ≡ trailOf [] → JudgedOf b (record { answer = Done; path = p })
-  in-time p (kept f within is) off listed = record { path = []; verdict = fine (ok .free) f within; listed = listed }
-  in-time p (exceeded {e = e} {p = q} {path = path} f last over walk is) off listed = off-on (not-true (s .slow) off) (shown-yes s (e q) path is)
+  time-kept : (p : Trail) → SlowOf b s → not (s .slow) ≡ true → p ≡ trailOf [] → JudgedOf b (record { answer = Done; path = p })
+  time-kept p (kept f within is) off listed = record { path = []; verdict = fine (ok .free) f within; listed = listed }
+  time-kept p (exceeded {e = e} {p = q} {path = path} f last over walk is) off listed = off-on (not-true (s .slow) off) (shown-yes s (e q) path is)
 
-  pub too-slow : SlowOf b s → not (s .slow) ≡ false → JudgedOf b (record { answer = Refused TooSlow (s .ticks); path = record { count = s .count; parts = s .path } })
-  too-slow (kept f within is) on = off-on (in-time-no s is) (not-false (s .slow) on)
-  too-slow (exceeded {e = e} {p = q} {path = path} f last over walk is) on =
+  pub in-time : (p : Trail) → (Loopless b → SlowOf b s) → not (s .slow) ≡ true → p ≡ trailOf [] → JudgedOf b (record { answer = Done; path = p })
+  in-time p said = time-kept p (said (timely-loopless b ok))
+
+  time-exceeded : SlowOf b s → not (s .slow) ≡ false → JudgedOf b (record { answer = Refused TooSlow (s .ticks); path = record { count = s .count; parts = s .path } })
+  time-exceeded (kept f within is) on = off-on (in-time-no s is) (not-false (s .slow) on)
+  time-exceeded (exceeded {e = e} {p = q} {path = path} f last over walk is) on =
       rw (shown-ticks s (e q) path is) (record { path = path; verdict = slow (ok .free) f last over walk; listed = shown-trail s (e q) path is })
+
+  pub too-slow :
+      (Loopless b → SlowOf b s) → not (s .slow) ≡ false → JudgedOf b (record { answer = Refused TooSlow (s .ticks); path = record { count = s .count; parts = s .path } })
+  too-slow said = time-exceeded (said (timely-loopless b ok))
 
 -- ---- `judge`
 module _ (b : Board) (w : WellFormed b) (found : Loop) (said : WellFormed b → LoopSaid b found) where

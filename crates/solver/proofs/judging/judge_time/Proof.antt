@@ -1,12 +1,12 @@
 -- `judging::judge_time` meets its contract.
 -- Assumes nothing.
-use Rattle.solver.proofs.judging.Judging.{timely-loopless, in-time, too-slow}
+use Rattle.solver.proofs.judging.Judging.{in-time, too-slow}
 use borrow.Author.Needs.{needs}
 use Rattle.solver.proofs.judging.judge_time.Statement.{statement}
 use Rattle.solver.proofs.judging.judge_time.Tie as tie
 
 slow-path-requires : tie.Need-slow-path-requires
-slow-path-requires c κs = search (timely-loopless)
+slow-path-requires c κs = search needs
 
 no-path-requires : tie.Need-no-path-requires
 no-path-requires c κs = search needs

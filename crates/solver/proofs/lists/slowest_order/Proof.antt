@@ -1,6 +1,5 @@
 -- `lists::slowest_order` meets its contract.
 -- Assumes nothing.
-use Rattle.solver.proofs.Solving.{slowest-able}
 use borrow.Author.Needs.{needs}
 use Rattle.solver.proofs.lists.slowest_order.Statement.{statement}
 use Rattle.solver.proofs.lists.slowest_order.Tie as tie
@@ -9,7 +8,7 @@ slowest-delays-requires : tie.Need-slowest-delays-requires
 slowest-delays-requires c κs = search needs
 
 times-of-requires : tie.Need-times-of-requires
-times-of-requires c κs = search (slowest-able)
+times-of-requires c κs = search needs
 
 by-start-requires : tie.Need-by-start-requires
 by-start-requires c κs = search needs
