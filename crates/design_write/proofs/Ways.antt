@@ -16,7 +16,7 @@ use Rattle.refusal.specs.declared.Answer.{Answer}
 use Rattle.refusal.specs.declared.Answer.the-variants.{Done, Refused}
 use Rattle.groups.specs.Number.{encode}
 use Rattle.fields.specs.Writing.{WroteIfRoom, WroteOrNothing, inRow}
-use Rattle.fields.proofs.WritingLaws.{room-more, room-or-nothing}
+use Rattle.fields.proofs.WritingLaws.{then-wrote, both-wrote}
 use Rattle.board.specs.declared.Link.{Link}
 use Rattle.board.specs.declared.Board.{Board}
 use Rattle.board.specs.Board.{WellFormed}
@@ -67,16 +67,10 @@ module _ (b : Board) (t : Bool) (test : Decides t (WellFormed b)) where
   uncounted is = record { formed = λ w. absurd (never t (test .no w) (not-true t is)); none = λ no. refl }
 
 -- ---- writers one after the other
--- a number, then what follows it
-pub then-written :
-    (buf : List ℕ) (at : ℕ) (v : List ℕ) (m : ℕ) (buf₁ : List ℕ) (w : List ℕ) (n : ℕ) (buf₂ : List ℕ) →
-    WroteOrNothing buf at v m buf₁ → WroteIfRoom buf₁ m w n buf₂ → WroteIfRoom buf at (v ++ w) n buf₂
-then-written buf at v m buf₁ w n buf₂ one two = room-more buf at v m buf₁ w n buf₂ (room-or-nothing buf at v m buf₁ one) two
-
 pub link-written :
     (buf : List ℕ) (at : ℕ) (link : Link) (m : ℕ) (buf₁ : List ℕ) (n : ℕ) (buf₂ : List ℕ) →
     WroteOrNothing buf at (encode (link .from)) m buf₁ → WroteOrNothing buf₁ m (encode (link .to)) n buf₂ → WroteIfRoom buf at (linkBytes link) n buf₂
-link-written buf at link m buf₁ n buf₂ one two = then-written buf at _ m buf₁ _ n buf₂ one (room-or-nothing buf₁ m _ n buf₂ two)
+link-written buf at link m buf₁ n buf₂ one two = both-wrote buf at _ m buf₁ _ n buf₂ one two
 
 pub head-written :
     (b : Board) (buf : List ℕ) (at m : ℕ) (buf₁ : List ℕ) (n : ℕ) (buf₂ : List ℕ) (e : ℕ) (buf₃ : List ℕ) →
@@ -84,7 +78,7 @@ pub head-written :
     WroteIfRoom buf at (headBytes b) e buf₃
 unfolding headBytes
 head-written b buf at m buf₁ n buf₂ e buf₃ one two three =
-    then-written buf at _ m buf₁ _ e buf₃ one (then-written buf₁ m _ n buf₂ _ e buf₃ two three)
+    then-wrote buf at _ m buf₁ _ e buf₃ one (then-wrote buf₁ m _ n buf₂ _ e buf₃ two three)
 
 -- ---- `write_design`
 short-stays : (short : Bool) (buf full : List ℕ) (w why : Why) (q place : ℕ) → pick short (Refused w q) Done ≡ Refused why place → pick short buf full ≡ buf
@@ -120,7 +114,7 @@ module _ (b : Board) (t : Bool) (test : Decides t (WellFormed b)) (is-formed : n
       filled : buf₂ ≡ bufferOf b buf
       unfolding bufferOf fileOf pick
       filled =
-          let all = then-written buf 0 (encode 1) next buf₁ (headBytes b) n buf₂ one two .wrote file-room in
+          let all = then-wrote buf 0 (encode 1) next buf₁ (headBytes b) n buf₂ one two .wrote file-room in
           let long : needed ≡ length (encode 1 ++ headBytes b) = is in
           let past : 0 + length (encode 1 ++ headBytes b) ≡ needed = omega arith in
           rw (← long, le-ltb (length buf) needed h)

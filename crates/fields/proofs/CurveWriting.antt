@@ -14,7 +14,7 @@ use Rattle.curve.specs.Curve.{runAt}
 use Rattle.fields.specs.Writing.{WroteIfRoom, WroteOrNothing}
 use Rattle.fields.specs.CurveFile.{runBytes, runsBytes, curveBytes}
 use Rattle.fields.proofs.CurveFileLaws.{curve-form, curve-no-form}
-use Rattle.fields.proofs.WritingLaws.{room-more, room-or-nothing, nothing-to-write, row-none, row-counted, row-wrote-none, row-wrote-more, row-ended}
+use Rattle.fields.proofs.WritingLaws.{then-wrote, both-wrote, nothing-to-write, row-none, row-counted, row-wrote-none, row-wrote-more, row-ended}
 
 -- ---- `narrow`: what reaches the limit has the limit's form, which is none
 pub limit-form : (n : ℕ) → limit ≤ n → encode limit ≡ encode n
@@ -58,7 +58,7 @@ curve-counted c f p n r few fastest power count runs =
 pub run-wrote :
     (buf : List ℕ) (at : ℕ) (run : Run) (m : ℕ) (buf₁ : List ℕ) (n : ℕ) (buf₂ : List ℕ) →
     WroteOrNothing buf at (encode (run .length .0)) m buf₁ → WroteOrNothing buf₁ m (encode (run .saving .0)) n buf₂ → WroteIfRoom buf at (runBytes run) n buf₂
-run-wrote buf at run m buf₁ n buf₂ one two = room-more buf at _ m buf₁ _ n buf₂ (room-or-nothing _ _ _ _ _ one) (room-or-nothing _ _ _ _ _ two)
+run-wrote buf at run m buf₁ n buf₂ one two = both-wrote buf at _ m buf₁ _ n buf₂ one two
 
 -- ---- all runs
 pub runs-wrote-none : (c : Curve) (buf : List ℕ) (at : ℕ) → WroteIfRoom buf at (runsBytes c 0) at buf
@@ -84,6 +84,6 @@ pub curve-wrote :
     WroteOrNothing buf₂ m₂ (encode (c .count)) m₃ buf₃ → WroteIfRoom buf₃ m₃ (runsBytes c (c .count)) n buf₄ → WroteIfRoom buf at (curveBytes c) n buf₄
 curve-wrote c buf at m₁ buf₁ m₂ buf₂ m₃ buf₃ n buf₄ few one two three four =
     rw (curve-form c few)
-    (room-more buf at _ m₁ buf₁ _ n buf₄ (room-or-nothing _ _ _ _ _ one)
-    (room-more buf₁ m₁ _ m₂ buf₂ _ n buf₄ (room-or-nothing _ _ _ _ _ two)
-    (room-more buf₂ m₂ _ m₃ buf₃ _ n buf₄ (room-or-nothing _ _ _ _ _ three) four)))
+    (then-wrote buf at _ m₁ buf₁ _ n buf₄ one
+    (then-wrote buf₁ m₁ _ m₂ buf₂ _ n buf₄ two
+    (then-wrote buf₂ m₂ _ m₃ buf₃ _ n buf₄ three four)))

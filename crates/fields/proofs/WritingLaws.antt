@@ -1,6 +1,7 @@
 -- Writers one after the other: what one leaves and the next one leaves, left at once; room for each.
 -- Assumes nothing.
 use mathlib.Core.Path.{_≡_, refl, sym, _∙_}
+use mathlib.Core.Logic.{⊎-elim}
 use mathlib.Core.List.{List, [], _∷_, _++_}
 use Prim.Native.Nat.{ℕ, zero, suc, _+_, _*_, _-_, _≤_, _<_}
 use native.Mathlib.Omega.{arith}
@@ -10,6 +11,7 @@ use lib.ListN.{length, set, length-append}
 use lib.Seq.{sets, length-sets}
 use borrow.Author.Tests.{le-leb, lt-leb}
 use Rattle.base.specs.Pick.{pick}
+use Rattle.base.proofs.Cases.{lt-or-le}
 use Rattle.groups.specs.Number.{encode, fits, written, writtenTo}
 use Rattle.fields.specs.Writing.{Wrote, WroteIfRoom, WroteOrNothing, inRow}
 
@@ -32,7 +34,7 @@ wrote-more buf₀ at v m buf w n buf′ one two =
     }
 
 -- a writer leaves the buffer as long as it was
-pub wrote-long : (buf : List ℕ) (at : ℕ) (w : List ℕ) (n : ℕ) (buf′ : List ℕ) → Wrote buf at w n buf′ → length buf′ ≡ length buf
+wrote-long : (buf : List ℕ) (at : ℕ) (w : List ℕ) (n : ℕ) (buf′ : List ℕ) → Wrote buf at w n buf′ → length buf′ ≡ length buf
 wrote-long buf at w n buf′ is = rw (is .holds) (length-sets buf at w)
 
 -- ---- room for two is room for the first, and then for the other
@@ -54,6 +56,31 @@ room-more buf₀ at v m buf w n buf′ one two = record {
 
 pub room-or-nothing : (buf : List ℕ) (at : ℕ) (w : List ℕ) (n : ℕ) (buf′ : List ℕ) → WroteOrNothing buf at w n buf′ → WroteIfRoom buf at w n buf′
 room-or-nothing buf at w n buf′ is = record { wrote = is .wrote }
+
+pub then-wrote :
+    (buf : List ℕ) (at : ℕ) (v : List ℕ) (m : ℕ) (buf₁ : List ℕ) (w : List ℕ) (n : ℕ) (buf₂ : List ℕ) →
+    WroteOrNothing buf at v m buf₁ → WroteIfRoom buf₁ m w n buf₂ → WroteIfRoom buf at (v ++ w) n buf₂
+then-wrote buf at v m buf₁ w n buf₂ one two = room-more buf at v m buf₁ w n buf₂ (room-or-nothing buf at v m buf₁ one) two
+
+pub both-wrote :
+    (buf : List ℕ) (at : ℕ) (v : List ℕ) (m : ℕ) (buf₁ : List ℕ) (w : List ℕ) (n : ℕ) (buf₂ : List ℕ) →
+    WroteOrNothing buf at v m buf₁ → WroteOrNothing buf₁ m w n buf₂ → WroteIfRoom buf at (v ++ w) n buf₂
+both-wrote buf at v m buf₁ w n buf₂ one two = then-wrote buf at v m buf₁ w n buf₂ one (room-or-nothing buf₁ m w n buf₂ two)
+
+-- of any bytes at any place, two results of a writer are the same
+pub wrote-once :
+    (buf : List ℕ) (at : ℕ) (w : List ℕ) (n n′ : ℕ) (buf₁ buf₂ : List ℕ) →
+    WroteOrNothing buf at w n buf₁ → WroteOrNothing buf at w n′ buf₂ → (n ≡ n′) × (buf₁ ≡ buf₂)
+wrote-once buf at w n n′ buf₁ buf₂ one two = ⊎-elim
+    (λ (late : length buf < at + length w).
+    let a = one .nothing late in
+    let b = two .nothing late in
+    (a .0 ∙ sym (b .0), a .1 ∙ sym (b .1)))
+    (λ (room : at + length w ≤ length buf).
+    let a = one .wrote room in
+    let b = two .wrote room in
+    (a .ends ∙ sym (b .ends), a .holds ∙ sym (b .holds)))
+    (lt-or-le (length buf) (at + length w))
 
 -- ---- a writer that tests its room
 nothing-done : (buf : List ℕ) (at : ℕ) (w : List ℕ) → length buf < at + length w → WroteOrNothing buf at w at buf

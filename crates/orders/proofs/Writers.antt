@@ -10,7 +10,7 @@ use Rattle.curve.specs.declared.Ticks.{Ticks}
 use Rattle.curve.specs.declared.Curve.{Curve}
 use Rattle.fields.specs.CurveFile.{curveBytes}
 use Rattle.fields.specs.Writing.{WroteIfRoom, WroteOrNothing}
-use Rattle.fields.proofs.WritingLaws.{room-more, room-or-nothing}
+use Rattle.fields.proofs.WritingLaws.{then-wrote, both-wrote}
 use Rattle.orders.specs.declared.Change.the-variants.{Deadline, AddLink, RemoveLink, NewCurve}
 use Rattle.orders.specs.declared.Order.{Order}
 use Rattle.orders.specs.Order.{orderBytes}
@@ -46,17 +46,7 @@ two-counted v w a b first second = omega (arith, length-append v w)
 pub three-counted : (u v w : List ℕ) (a b c : ℕ) → a ≡ length u → b ≡ length v → c ≡ length w → a + b + c ≡ length (u ++ (v ++ w))
 three-counted u v w a b c first second third = omega (arith, length-append u (v ++ w), length-append v w)
 
--- ---- what is written after a number
-pub then-wrote :
-    (buf : List ℕ) (at : ℕ) (v : List ℕ) (m : ℕ) (buf₁ : List ℕ) (w : List ℕ) (n : ℕ) (buf₂ : List ℕ) →
-    WroteOrNothing buf at v m buf₁ → WroteIfRoom buf₁ m w n buf₂ → WroteIfRoom buf at (v ++ w) n buf₂
-then-wrote buf at v m buf₁ w n buf₂ one two = room-more buf at v m buf₁ w n buf₂ (room-or-nothing buf at v m buf₁ one) two
-
-pub both-wrote :
-    (buf : List ℕ) (at : ℕ) (v : List ℕ) (m : ℕ) (buf₁ : List ℕ) (w : List ℕ) (n : ℕ) (buf₂ : List ℕ) →
-    WroteOrNothing buf at v m buf₁ → WroteOrNothing buf₁ m w n buf₂ → WroteIfRoom buf at (v ++ w) n buf₂
-both-wrote buf at v m buf₁ w n buf₂ one two = then-wrote buf at v m buf₁ w n buf₂ one (room-or-nothing buf₁ m w n buf₂ two)
-
+-- ---- `write_new_curve`
 pub new-curve-wrote :
     (part : ℕ) (c : Curve) (buf : List ℕ) (at m₁ : ℕ) (buf₁ : List ℕ) (m₂ : ℕ) (buf₂ : List ℕ) (n : ℕ) (buf₃ : List ℕ) →
     WroteOrNothing buf at (encode 4) m₁ buf₁ → WroteOrNothing buf₁ m₁ (encode part) m₂ buf₂ → WroteOrNothing buf₂ m₂ (curveBytes c) n buf₃ →

@@ -1,4 +1,4 @@
-use Rattle.design_write.proofs.Ways.{then-written}
+use Rattle.fields.proofs.WritingLaws.{then-wrote}
 use Rattle.design.specs.Design.{linkedBytes}
 use borrow.Author.Needs.{needs}
 use Rattle.design_write.proofs.write_linked.Statement.{statement}
@@ -19,7 +19,7 @@ same-length c = search needs
 
 returns : tie.Need-returns
 unfolding linkedBytes
-returns c = search (then-written)
+returns c = search (then-wrote)
 
 pub write-linked-spec : {M : Type 1} → statement M
 write-linked-spec = tie.close (tie.spec put-requires write-links-requires same-length returns)

@@ -1,4 +1,4 @@
-use Rattle.orders.proofs.Writers.{then-wrote}
+use Rattle.fields.proofs.WritingLaws.{then-wrote}
 use borrow.Author.Needs.{needs}
 use Rattle.orders.proofs.write_link.Statement.{statement}
 use Rattle.orders.proofs.write_link.Tie as tie

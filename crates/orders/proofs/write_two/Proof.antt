@@ -1,4 +1,4 @@
-use Rattle.orders.proofs.Writers.{both-wrote}
+use Rattle.fields.proofs.WritingLaws.{both-wrote}
 use borrow.Author.Needs.{needs}
 use Rattle.orders.proofs.write_two.Statement.{statement}
 use Rattle.orders.proofs.write_two.Tie as tie
