@@ -71,6 +71,7 @@ runBytes run = encode (run .length .0) ++ encode (run .saving .0)
 unfoldable pub runsBytes : Curve → ℕ → List ℕ
 runsBytes c k = inRow (λ i. runBytes (runAt c i)) k
 
+-- fastest, power, run count and runs
 abbrev pub numbersOf : Curve → List ℕ
 numbersOf c = encode (c .fastest .0) ++ (encode (c .power .0) ++ (encode (c .count) ++ runsBytes c (c .count)))
 
