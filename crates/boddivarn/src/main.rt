@@ -103,13 +103,14 @@ fn print_order(answer: Answer, count: usize) {
 
 fn print_table(d: Desk, names: &[u8]) {
     console::text(b"part label start delay end power\n");
-    let n = questions::whole(d).parts;
+    let whole = questions::whole(d);
+    let n = whole.parts;
     let mut p: usize = 0;
     while p < n {
         print_part(d, p, names);
         p = p + 1;
     }
-    console::number(b"total ", questions::whole(d).total);
+    console::number(b"total ", whole.total);
     console::end_line();
 }
 

@@ -8,64 +8,59 @@ use Rattle.boddivarn.proofs.print_part.Reads as print-part-reads
 use Rattle.console.proofs.end_line.Reads as end-line-reads
 use Rattle.console.proofs.number.Reads as number-reads
 use Rattle.console.proofs.text.Reads as text-reads
-use Rattle.questions.proofs.parts.Reads as parts-reads
-use Rattle.questions.proofs.total.Reads as total-reads
+use Rattle.questions.proofs.whole.Reads as whole-reads
 
 abbrev Inv-loop : tie.InvT-loop
-Inv-loop d names n p₀ t6 p = Unit
+Inv-loop d names whole n p₀ t7 p = Unit
 
 abbrev μ-loop : tie.MeasureT-loop
-μ-loop d names n p₀ t6 p = n - p
+μ-loop d names whole n p₀ t7 p = n - p
 
--- src/main.rt:101:19
+-- src/main.rt:105:19
 slice-aggregate-text : tie.Need-slice-aggregate-text Inv-loop μ-loop
 slice-aggregate-text c = search needs
 
--- src/main.rt:101:5
+-- src/main.rt:105:5
 text-requires : tie.Need-text-requires Inv-loop μ-loop
 text-requires c κs = search needs
 
--- src/main.rt:102:13
-parts-requires : tie.Need-parts-requires Inv-loop μ-loop
-parts-requires c κs = search needs
+-- src/main.rt:106:9
+whole-requires : tie.Need-whole-requires Inv-loop μ-loop
+whole-requires c κs = search needs
 
--- src/main.rt:104:5
+-- src/main.rt:109:5
 loop-holds : tie.Need-loop-holds Inv-loop μ-loop
 loop-holds c = search needs
 
--- src/main.rt:105:9
+-- src/main.rt:110:9
 print-part-requires : tie.Need-print-part-requires Inv-loop μ-loop
 print-part-requires c κs = search needs
 
--- src/main.rt:106:13
+-- src/main.rt:111:13
 add-p : tie.Need-add-p Inv-loop μ-loop
 add-p c = search needs
 
--- src/main.rt:104:5
+-- src/main.rt:109:5
 loop-less : tie.Need-loop-less Inv-loop μ-loop
 loop-less c = search needs
 
--- src/main.rt:104:5
+-- src/main.rt:109:5
 loop-again : tie.Need-loop-again Inv-loop μ-loop
 loop-again c = search needs
 
--- src/main.rt:108:21
+-- src/main.rt:113:21
 slice-aggregate-number : tie.Need-slice-aggregate-number Inv-loop μ-loop
 slice-aggregate-number c = search needs
 
--- src/main.rt:108:32
-total-requires : tie.Need-total-requires Inv-loop μ-loop
-total-requires c κs = search needs
-
--- src/main.rt:108:5
+-- src/main.rt:113:5
 number-requires : tie.Need-number-requires Inv-loop μ-loop
 number-requires c κs = search needs
 
--- src/main.rt:109:5
+-- src/main.rt:114:5
 end-line-requires : tie.Need-end-line-requires Inv-loop μ-loop
 end-line-requires c κs = search needs
 
--- src/main.rt:100:1
+-- src/main.rt:104:1
 returns : tie.Need-returns Inv-loop μ-loop
 returns c = search needs
 
@@ -77,14 +72,13 @@ print-table-spec =
     μ-loop
     slice-aggregate-text
     text-requires
-    parts-requires
+    whole-requires
     loop-holds
     print-part-requires
     add-p
     loop-less
     loop-again
     slice-aggregate-number
-    total-requires
     number-requires
     end-line-requires
     returns)

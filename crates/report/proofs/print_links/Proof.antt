@@ -4,7 +4,7 @@ use Rattle.report.proofs.print_links.Statement.{statement}
 use Rattle.report.proofs.print_links.Tie as tie
 use Rattle.report.proofs.print_links.Reads as reads
 use Rattle.report.proofs.print_links.Lts as lts
-use Rattle.questions.proofs.links.Reads as links-reads
+use Rattle.questions.proofs.whole.Reads as whole-reads
 use Rattle.report.proofs.print_link.Reads as print-link-reads
 
 abbrev Inv-loop : tie.InvT-loop
@@ -14,8 +14,8 @@ abbrev μ-loop : tie.MeasureT-loop
 μ-loop d n l₀ l = n - l
 
 -- src/lib.rt:165:13
-links-requires : tie.Need-links-requires Inv-loop μ-loop
-links-requires c κs = search needs
+whole-requires : tie.Need-whole-requires Inv-loop μ-loop
+whole-requires c κs = search needs
 
 -- src/lib.rt:167:5
 loop-holds : tie.Need-loop-holds Inv-loop μ-loop
@@ -47,7 +47,7 @@ print-links-spec =
     (tie.spec
     Inv-loop
     μ-loop
-    links-requires
+    whole-requires
     loop-holds
     print-link-requires
     add-l
