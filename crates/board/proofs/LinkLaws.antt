@@ -14,7 +14,7 @@ use Rattle.curve.proofs.GoodLaws.{every-at, every-all}
 use Rattle.board.specs.declared.Link.{Link}
 use Rattle.board.specs.declared.Board.{Board}
 use Rattle.board.specs.Board.{WellFormed, linkAt, noLink, order}
-use Rattle.board.specs.Tests.{belowOf, linkHeld, linkBlank, linkTest, linksTest}
+use Rattle.board.specs.Tests.{belowOf, linkHeld, linkBlank, linkGood, linkTest, linksTest}
 
 -- ---- tests
 pub clash : {A : Type 0} → false ≡ true → A
@@ -58,7 +58,7 @@ pub record LinkHeld (b : Board) (l : ℕ) : Type 0 where
   pub apart : linkAt b l .from ≢ linkAt b l .to
   pub above : pick (eqb l 0) true (eqb (belowOf (linkAt b (l - 1)) (linkAt b l)) 1) ≡ true
 
-pub held-passed : (b : Board) (l : ℕ) → linkHeld b l ≡ true → LinkHeld b l
+pub held-passed : (b : Board) (l : ℕ) → linkHeld (b .parts) l (linkAt b (l - 1)) (linkAt b l) ≡ true → LinkHeld b l
 unfolding linkHeld
 held-passed b l e =
     let p = passed _ _ e in
@@ -80,11 +80,11 @@ one-less l = omega arith
 
 module _ (b : Board) (few : b .parts ≤ 64) (good : linksTest b ≡ true) where
   pub held-of : (l : ℕ) → l < b .links → l < 256 → LinkHeld b l
-  unfolding linksTest linkTest pick
+  unfolding linksTest linkTest linkGood pick
   held-of l h r = held-passed b l (rw (lt-ltb l (b .links) h) at (every-at (linkTest b) 256 good l r))
 
   pub blank-of : (l : ℕ) → b .links ≤ l → l < 256 → linkAt b l ≡ noLink
-  unfolding linksTest linkTest pick
+  unfolding linksTest linkTest linkGood pick
   blank-of l h r = blank-passed (linkAt b l) (rw (le-ltb l (b .links) h) at (every-at (linkTest b) 256 good l r))
 
   pub ascends-of : (l : ℕ) → suc l < b .links → suc l < 256 → order (linkAt b l) < order (linkAt b (suc l))
@@ -96,7 +96,7 @@ module _ (b : Board) (few : b .parts ≤ 64) (good : linksTest b ≡ true) where
 
 -- ---- and the links of a well formed board pass it
 module _ (b : Board) (w : WellFormed b) where
-  held-passes : (l : ℕ) → l < b .links → linkHeld b l ≡ true
+  held-passes : (l : ℕ) → l < b .links → linkHeld (b .parts) l (linkAt b (l - 1)) (linkAt b l) ≡ true
   unfolding linkHeld pick
   held-passes zero h = rw (lt-leb _ _ (w .from-in 0 h), lt-leb _ _ (w .to-in 0 h), ne-eqb _ _ (w .apart 0 h))
   held-passes (suc l) h =
@@ -105,7 +105,7 @@ module _ (b : Board) (w : WellFormed b) where
       rw (lt-leb _ _ (w .from-in s h), lt-leb _ _ (w .to-in s h), ne-eqb _ _ (w .apart s h), later l, one-less l, eq-eqb _ _ one)
 
   link-passes : (l : ℕ) → l < 256 → linkTest b l ≡ true
-  unfolding linkTest linkBlank pick
+  unfolding linkTest linkGood linkBlank pick
   link-passes l r = ⊎-elim (λ (h : l < b .links). rw (lt-ltb _ _ h) (held-passes l h)) (λ (h : b .links ≤ l). rw (le-ltb _ _ h, w .blank-links l h r)) (lt-or-le l (b .links))
 
   pub links-pass : linksTest b ≡ true

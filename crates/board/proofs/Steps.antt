@@ -5,7 +5,8 @@ use mathlib.Core.List.{List, map}
 use mathlib.Core.Bool.{Bool, true}
 use Prim.Native.Nat.{ℕ, _+_, _-_, _≤_, _<_}
 use native.Mathlib.Numerals.{add-one}
-use lib.ListN.{length, replicate, length-map}
+use native.Mathlib.Omega.{arith}
+use lib.ListN.{length, getD, replicate, length-map}
 use lib.Dec.{eqb}
 use borrow.Author.Tests.{lt-leb, ne-eqb}
 use Rattle.base.specs.Pick.{pick}
@@ -16,16 +17,30 @@ use Rattle.curve.specs.declared.Ticks.{Ticks}
 use Rattle.curve.specs.declared.Curve.{Curve}
 use Rattle.board.specs.declared.Link.{Link}
 use Rattle.board.specs.declared.Board.{Board}
-use Rattle.board.specs.Board.{blankCurve, linkAt}
-use Rattle.board.specs.Tests.{blankCurves, blankLinks, emptyOf, belowOf, linkHeld}
+use Rattle.board.specs.Board.{noLink, blankCurve, linkAt, curveAt}
+use Rattle.board.specs.Tests.{blankCurves, blankLinks, emptyOf, belowOf, linkHeld, linkGood, linkTest, curveGood, curveTest}
 
 pub none-tested : (test : ℕ → Bool) → true ≡ every 0 test
 unfolding every
 none-tested test = refl
 
-pub one-more : (test : ℕ → Bool) (k : ℕ) (good one next : Bool) → good ≡ every k test → one ≡ test k → next ≡ both good one → next ≡ every (k + 1) test
+one-more : (test : ℕ → Bool) (k : ℕ) (good one next : Bool) → good ≡ every k test → one ≡ test k → next ≡ both good one → next ≡ every (k + 1) test
 unfolding every
 one-more test k good one next is new so = rw (add-one, ← is, ← new) so
+
+-- one curve more, one link more
+module _ (b : Board) (k : ℕ) (good one next : Bool) where
+  pub one-curve : good ≡ every k (curveTest b) → one ≡ curveGood (b .parts) k (curveAt b k) → next ≡ both good one → next ≡ every (k + 1) (curveTest b)
+  unfolding curveTest
+  one-curve = one-more (curveTest b) k good one next
+
+  pub one-link : (before : Link) → good ≡ every k (linkTest b) → before ≡ linkAt b (k - 1) →
+      one ≡ linkGood (b .parts) (b .links) k before (linkAt b k) → next ≡ both good one → next ≡ every (k + 1) (linkTest b)
+  unfolding linkTest
+  one-link before is at new = one-more (linkTest b) k good one next is (rw at at new)
+
+pub link-before : (links : List Link) (k : ℕ) → getD links k noLink ≡ getD links (k + 1 - 1) noLink
+link-before links k = let one : k ≡ k + 1 - 1 = omega arith in ap (λ (l : ℕ). getD links l noLink) one
 
 pub all-tested : (test : ℕ → Bool) (k n : ℕ) (good : Bool) → good ≡ every k test → k ≤ n → n ≤ k → good ≡ every n test
 all-tested test k n good is l h = finished (λ m. every m test) l h is
@@ -40,10 +55,10 @@ unfolding emptyOf
 emptied d n curves links blank none = rw (blank, none)
 
 -- the last way through `link_held`
-pub in-order : (b : Board) (l r : ℕ) → linkAt b l .from < b .parts → linkAt b l .to < b .parts → (linkAt b l .from ≡ linkAt b l .to → ⊥) → (l ≡ 0 → ⊥)
-    → r ≡ belowOf (linkAt b (l - 1)) (linkAt b l) → eqb r 1 ≡ linkHeld b l
+pub in-order : (parts l : ℕ) (before x : Link) (r : ℕ) → x .from < parts → x .to < parts → (x .from ≡ x .to → ⊥) → (l ≡ 0 → ⊥)
+    → r ≡ belowOf before x → eqb r 1 ≡ linkHeld parts l before x
 unfolding linkHeld pick
-in-order b l r from to apart later is = rw (lt-leb _ _ from, lt-leb _ _ to, ne-eqb _ _ apart, ne-eqb _ _ later, is)
+in-order parts l before x r from to apart later is = rw (lt-leb _ _ from, lt-leb _ _ to, ne-eqb _ _ apart, ne-eqb _ _ later, is)
 
 pub flat-blank : (c : Curve) → c ≡ flatOf (record { 0 = 0 }) (record { 0 = 0 }) → c ≡ blankCurve
 unfolding flatOf blankCurve

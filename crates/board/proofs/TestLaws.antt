@@ -18,7 +18,7 @@ use Rattle.curve.proofs.GoodLaws.{every-at, every-all, goodb-good, good-goodb}
 use Rattle.curve.proofs.CurveLaws.{good-same, flat-good}
 use Rattle.board.specs.declared.Board.{Board}
 use Rattle.board.specs.Board.{WellFormed, curveAt, blankCurve}
-use Rattle.board.specs.Tests.{Decides, quickened, curveBlank, curveTest, curvesTest, linksTest}
+use Rattle.board.specs.Tests.{Decides, quickened, curveBlank, curveGood, curveTest, curvesTest, linksTest}
 use Rattle.board.proofs.LinkLaws.{clash, passed, held-of, blank-of, ascends-of, links-pass}
 
 -- ---- a blank curve
@@ -57,16 +57,16 @@ is-blank-curve = good-goodb flat flat-is-good
 -- ---- all curves
 module _ (b : Board) (good : curvesTest b ≡ true) where
   curve-of : (p : ℕ) → p < b .parts → p < 64 → Good (curveAt b p)
-  unfolding curvesTest curveTest pick
+  unfolding curvesTest curveTest curveGood pick
   curve-of p h r = goodb-good (curveAt b p) (rw (lt-ltb p (b .parts) h) at (every-at (curveTest b) 64 good p r))
 
   blank-curve-of : (p : ℕ) → b .parts ≤ p → p < 64 → curveAt b p ≡ blankCurve
-  unfolding curvesTest curveTest pick
+  unfolding curvesTest curveTest curveGood pick
   blank-curve-of p h r = blank-curve-is (curveAt b p) (rw (le-ltb p (b .parts) h) at (every-at (curveTest b) 64 good p r))
 
 module _ (b : Board) (w : WellFormed b) where
   curve-passes : (p : ℕ) → p < 64 → curveTest b p ≡ true
-  unfolding curveTest pick
+  unfolding curveTest curveGood pick
   curve-passes p r =
       ⊎-elim
       (λ (h : p < b .parts). rw (lt-ltb _ _ h) (good-goodb (curveAt b p) (w .curves p h)))

@@ -36,19 +36,22 @@ belowOf a x =
     pick (ltb (x .from) (a .from)) 0 (
     pick (ltb (a .to) (x .to)) 1 0))
 
--- link l joins two parts and stands above the one before it
-unfoldable pub linkHeld : Board → ℕ → Bool
-linkHeld b l =
-    pick (leb (b .parts) (linkAt b l .from)) false (
-    pick (leb (b .parts) (linkAt b l .to)) false (
-    pick (eqb (linkAt b l .from) (linkAt b l .to)) false (
-    pick (eqb l 0) true (eqb (belowOf (linkAt b (l - 1)) (linkAt b l)) 1))))
+-- link l, which is x, joins two parts and stands above the one before it
+unfoldable pub linkHeld : ℕ → ℕ → Link → Link → Bool
+linkHeld parts l before x =
+    pick (leb parts (x .from)) false (
+    pick (leb parts (x .to)) false (
+    pick (eqb (x .from) (x .to)) false (
+    pick (eqb l 0) true (eqb (belowOf before x) 1))))
 
 unfoldable pub linkBlank : Link → Bool
 linkBlank x = pick (ltb 0 (x .from)) false (eqb (x .to) 0)
 
+unfoldable pub linkGood : ℕ → ℕ → ℕ → Link → Link → Bool
+linkGood parts links l before x = pick (ltb l links) (linkHeld parts l before x) (linkBlank x)
+
 unfoldable pub linkTest : Board → ℕ → Bool
-linkTest b l = pick (ltb l (b .links)) (linkHeld b l) (linkBlank (linkAt b l))
+linkTest b l = linkGood (b .parts) (b .links) l (linkAt b (l - 1)) (linkAt b l)
 
 unfoldable pub linksTest : Board → Bool
 linksTest b = every 256 (linkTest b)
@@ -63,8 +66,11 @@ curveBlank c =
     pick (ltb 0 (c .power .0)) false (
     pick (ltb 0 (c .count)) false (goodb (quickened c))))
 
+unfoldable pub curveGood : ℕ → ℕ → Curve → Bool
+curveGood parts p c = pick (ltb p parts) (goodb c) (curveBlank c)
+
 unfoldable pub curveTest : Board → ℕ → Bool
-curveTest b p = pick (ltb p (b .parts)) (goodb (curveAt b p)) (curveBlank (curveAt b p))
+curveTest b p = curveGood (b .parts) p (curveAt b p)
 
 unfoldable pub curvesTest : Board → Bool
 curvesTest b = every 64 (curveTest b)

@@ -3,7 +3,7 @@ ghost use mathlib.Core.Path.{_≡_};
 ghost use Prim.Native.Nat.{_<_};
 ghost use Rattle.curve.specs.Tests.{both};
 ghost use Rattle.board.specs.Board.{blankCurve, usable, WellFormed};
-ghost use Rattle.board.specs.Tests.{Decides, blankCurves, blankLinks, emptyOf, belowOf, linkBlank, linkHeld, linkTest, linksTest, curveBlank, curveTest, curvesTest};
+ghost use Rattle.board.specs.Tests.{Decides, blankCurves, blankLinks, emptyOf, belowOf, linkBlank, linkHeld, linkGood, linksTest, curveBlank, curveGood, curvesTest};
 use curve::Curve;
 use curve::Microwatts;
 use curve::Ticks;
@@ -101,16 +101,14 @@ fn link_blank(l: Link) -> bool
     l.to == 0
 }
 
-// Whether link l of the board joins two of its parts and stands above the one before it.
-fn link_held(b: Board, l: usize) -> bool
-    requires { ⌜ l < 256 ⌝ }
-    ensures { λ r. ⌜ r ≡ linkHeld b l ⌝ }
+// Whether link l, which is x, joins two of the parts and stands above the one before it.
+fn link_held(parts: usize, l: usize, before: Link, x: Link) -> bool
+    ensures { λ r. ⌜ r ≡ linkHeld parts l before x ⌝ }
 {
-    let x = b.link[l];
-    if b.parts <= x.from {
+    if parts <= x.from {
         return false;
     }
-    if b.parts <= x.to {
+    if parts <= x.to {
         return false;
     }
     if x.from == x.to {
@@ -119,19 +117,16 @@ fn link_held(b: Board, l: usize) -> bool
     if l == 0 {
         return true;
     }
-    let before = b.link[l - 1];
     below(before, x) == 1
 }
 
-// Whether place l of the links holds what it should.
-fn link_good(b: Board, l: usize) -> bool
-    requires { ⌜ l < 256 ⌝ }
-    ensures { λ r. ⌜ r ≡ linkTest b l ⌝ }
+// Whether place l of the links, after `before`, holds what it should. A board would be copied for each place: two links will do.
+fn link_good(parts: usize, links: usize, l: usize, before: Link, x: Link) -> bool
+    ensures { λ r. ⌜ r ≡ linkGood parts links l before x ⌝ }
 {
-    if l < b.links {
-        return link_held(b, l);
+    if l < links {
+        return link_held(parts, l, before, x);
     }
-    let x = b.link[l];
     link_blank(x)
 }
 
@@ -139,10 +134,15 @@ fn link_good(b: Board, l: usize) -> bool
 fn links_good(b: Board) -> bool
     ensures { λ r. ⌜ r ≡ linksTest b ⌝ }
 {
+    let parts = b.parts;
+    let links = b.links;
+    let mut before = b.link[0];
     let mut good = true;
     let mut l: usize = 0;
     while l < 256 {
-        good = both_hold(good, link_good(b, l));
+        let x = b.link[l];
+        good = both_hold(good, link_good(parts, links, l, before, x));
+        before = x;
         l = l + 1;
     }
     good
@@ -168,12 +168,10 @@ fn curve_blank(c: Curve) -> bool
 }
 
 // Whether place p of the curves holds what it should.
-fn curve_good(b: Board, p: usize) -> bool
-    requires { ⌜ p < 64 ⌝ }
-    ensures { λ r. ⌜ r ≡ curveTest b p ⌝ }
+fn curve_good(parts: usize, p: usize, c: Curve) -> bool
+    ensures { λ r. ⌜ r ≡ curveGood parts p c ⌝ }
 {
-    let c = b.curve[p];
-    if p < b.parts {
+    if p < parts {
         return c.is_good();
     }
     curve_blank(c)
@@ -183,10 +181,12 @@ fn curve_good(b: Board, p: usize) -> bool
 fn curves_good(b: Board) -> bool
     ensures { λ r. ⌜ r ≡ curvesTest b ⌝ }
 {
+    let parts = b.parts;
     let mut good = true;
     let mut p: usize = 0;
     while p < 64 {
-        good = both_hold(good, curve_good(b, p));
+        let c = b.curve[p];
+        good = both_hold(good, curve_good(parts, p, c));
         p = p + 1;
     }
     good
