@@ -16,8 +16,8 @@
 
 // Exported by the crate `hosted`: loads the file so many times, and gives the total held, or 0 where it is refused.
 extern "C" uint64_t boddivarn_load(const uint8_t *file, size_t length, uint32_t times);
-// Loads the file, then asks for all cones so many times.
-extern "C" uint64_t boddivarn_cones(const uint8_t *file, size_t length, uint32_t times);
+// Loads the file once, then asks so many times for the parts upstream of one.
+extern "C" uint64_t boddivarn_upstream(const uint8_t *file, size_t length, size_t part, uint32_t times);
 
 struct Run { int length, saving; };
 struct Part { int fastest, power; std::vector<Run> runs; };
@@ -143,22 +143,33 @@ struct Ratios {
     }
 };
 
-// Of a full board: all cones of all parts; and what comes before solving, by a load that is refused for time (file, loops, times, shown path).
+// Of a full board: the parts upstream of every part; and what comes before solving, by a load that is refused for time (file, loops, times, shown path).
 static void print_rest(Draw &draw) {
     Board b;
     make_board(b, "dense", 64, 50, draw);
     std::vector<uint8_t> file = file_of(b);
-    double once = best_of_three([&] { boddivarn_cones(file.data(), file.size(), 0); });
-    double cones = best_of_three([&] { boddivarn_cones(file.data(), file.size(), 100); });
+    auto cones = [&](uint32_t times) { return best_of_three([&] { for (size_t p = 0; p < 64; p++) boddivarn_upstream(file.data(), file.size(), p, times); }); };
+    double loads = cones(0), asked = cones(100);
     b.deadline = 1;
     std::vector<uint8_t> slow = file_of(b);
     double judged = best_of_three([&] { boddivarn_load(slow.data(), slow.size(), 100); });
-    std::printf("64 parts, %d links: all cones %.1f us, read and judged %.1f us\n", (int)b.links.size(), (cones - once) / 100, judged / 100);
+    std::printf("64 parts, %d links: upstream of every part %.1f us, read and judged %.1f us\n", (int)b.links.size(), (asked - loads) / 100, judged / 100);
 }
 
+// ---- the boards once more, for the program that counts the work: a bundle of files without advice, and a line for each
+
+static void put_record(std::FILE *out, const std::vector<uint8_t> &bytes) {
+    for (int k = 0; k < 4; k++) std::fputc(int(bytes.size() >> (8 * k) & 255), out);
+    std::fwrite(bytes.data(), 1, bytes.size(), out);
+}
+
+// compare BOARDS SEED BUNDLE LINES
 int main(int argc, char **argv) {
-    const int boards = argc > 1 ? std::atoi(argv[1]) : 4;
-    Draw draw(argc > 2 ? std::strtoull(argv[2], nullptr, 10) : 1);
+    if (argc != 5) return 2;
+    const int boards = std::atoi(argv[1]);
+    Draw draw(std::strtoull(argv[2], nullptr, 10));
+    std::FILE *bundle = std::fopen(argv[3], "wb"), *lines = std::fopen(argv[4], "w");
+    if (!bundle || !lines) return 2;
     int wrong = 0;
     Ratios all;
     std::printf("%-8s %5s %6s %10s %10s %7s %7s %7s\n", "shape", "parts", "boards", "us ours", "us LEMON", "mean", "geo", "worst");
@@ -168,6 +179,9 @@ int main(int argc, char **argv) {
             Board b;
             if (!make_board(b, shape, parts, percent, draw)) continue;
             std::vector<uint8_t> file = file_of(b);
+            put_record(bundle, file);
+            put_record(bundle, {});
+            std::fprintf(lines, "%s %d\n", shape, parts);
             Flow flow(b);
             uint64_t total = 0;
             double ours = best_of_three([&] { total = boddivarn_load(file.data(), file.size(), 1); });
@@ -181,6 +195,8 @@ int main(int argc, char **argv) {
     }
     all.print("all", 0);
     print_rest(draw);
+    std::fclose(bundle);
+    std::fclose(lines);
     std::printf("%d totals differ\n", wrong);
     return wrong != 0;
 }
