@@ -115,12 +115,14 @@ fn from_slowest(
     list: &[usize; 896],
     order: &[usize; 896],
     due: u32,
+    slowest: [u32; 130],
     looked: u32,
 ) -> Found
     requires { ⌜ Prepared b arcs (now tail) (now head) (now base) (now lengths) (now savings) due ⌝ }
+    requires { ⌜ Slowest b due slowest ⌝ }
     ensures { λ r. ⌜ Proves (netOf arcs (now (tail .entry)) (now (head .entry)) (now (base .entry)) (now (lengths .entry)) (now (savings .entry))) due (r .loads) (r .times) ⌝ }
 {
-    let mut late = slowest_times(b, due);
+    let mut late = slowest;
     let mut x = no_loads();
     let w = crashing::crash(
         arcs,
@@ -177,7 +179,8 @@ pub(crate) fn found_with(
     let lists = lists::arcs_at_nodes(arcs, tail, head);
     let first = lists.first;
     let list = lists.list;
-    let order = lists::slowest_order(b, &first, &list);
+    let slowest = slowest_times(b, due);
+    let order = lists::order_by(&slowest, b.parts, &first, &list);
     let mut t = [0u32; 130];
     let d = accepts(
         b,
@@ -215,6 +218,7 @@ pub(crate) fn found_with(
         &list,
         &order,
         due,
+        slowest,
         d.rounds,
     )
 }

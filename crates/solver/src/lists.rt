@@ -1,7 +1,5 @@
 // The room of the lists: the arcs at each node, and an order of arcs, which make for quick work. Any will do, so nothing is said of them.
-use board::Board;
 ghost use Prim.Native.Nat.{_≤_, _<_};
-ghost use Rattle.solver.specs.Solve.{Solvable};
 
 // Node `v` has places `first[v]` to `first[v + 1]` of the list.
 pub(crate) struct Lists {
@@ -95,15 +93,15 @@ pub(crate) fn arcs_at_nodes(arcs: usize, tail: &[usize; 448], head: &[usize; 448
 }
 
 // 1 where part `q` starts before part `p`, or with it and has the lower number; else 0.
-fn sooner(start: [u32; 64], q: usize, p: usize) -> usize
+fn sooner(t: &[u32; 130], q: usize, p: usize) -> usize
     requires { ⌜ q < 64 ⌝ }
     requires { ⌜ p < 64 ⌝ }
     ensures { λ r. ⌜ r ≤ 1 ⌝ }
 {
-    if start[q] < start[p] {
+    if t[q] < t[p] {
         return 1;
     }
-    if start[p] < start[q] {
+    if t[p] < t[q] {
         return 0;
     }
     if q < p {
@@ -113,14 +111,14 @@ fn sooner(start: [u32; 64], q: usize, p: usize) -> usize
 }
 
 // How many of `n` parts start before part `p`.
-fn turn_of(start: [u32; 64], n: usize, p: usize) -> usize
+fn turn_of(t: &[u32; 130], n: usize, p: usize) -> usize
     requires { ⌜ n ≤ 64 ⌝ }
     requires { ⌜ p < 64 ⌝ }
 {
     let mut turn: usize = 0;
     let mut q: usize = 0;
     while q < n {
-        turn = turn + sooner(start, q, p);
+        turn = turn + sooner(t, q, p);
         q = q + 1;
     }
     turn
@@ -134,13 +132,13 @@ fn put_part(parts: &mut [usize; 64], turn: usize, p: usize) {
 }
 
 // The parts by their starts.
-fn by_start(start: [u32; 64], n: usize) -> [usize; 64]
+fn by_start(t: &[u32; 130], n: usize) -> [usize; 64]
     requires { ⌜ n ≤ 64 ⌝ }
 {
     let mut parts = [0usize; 64];
     let mut p: usize = 0;
     while p < n {
-        put_part(&mut parts, turn_of(start, n, p), p);
+        put_part(&mut parts, turn_of(t, n, p), p);
         p = p + 1;
     }
     parts
@@ -204,13 +202,15 @@ fn order_of(parts: [usize; 64], n: usize, first: &[usize; 131], list: &[usize; 8
     order
 }
 
-// The order by the starts of all parts at their slowest.
-pub(crate) fn slowest_order(b: Board, first: &[usize; 131], list: &[usize; 896]) -> [usize; 896]
-    requires { ⌜ Solvable b ⌝ }
+// The order by the starts of `n` parts, whose times stand at their nodes.
+pub(crate) fn order_by(
+    t: &[u32; 130],
+    n: usize,
+    first: &[usize; 131],
+    list: &[usize; 896],
+) -> [usize; 896]
+    requires { ⌜ n ≤ 64 ⌝ }
 {
-    let d = times::slowest_delays(b);
-    let s = times::times_of(b, d);
-    let start = s.start;
-    let parts = by_start(start, b.parts);
-    order_of(parts, b.parts, first, list)
+    let parts = by_start(t, n);
+    order_of(parts, n, first, list)
 }

@@ -8,8 +8,11 @@ use Rattle.solver.proofs.finding.found_with.Tie as tie
 arcs-at-nodes-requires : tie.Need-arcs-at-nodes-requires
 arcs-at-nodes-requires c κs = search needs
 
-slowest-order-requires : tie.Need-slowest-order-requires
-slowest-order-requires c κs = search needs
+slowest-times-requires : tie.Need-slowest-times-requires
+slowest-times-requires c κs = search needs
+
+order-by-requires : tie.Need-order-by-requires
+order-by-requires c κs = search needs
 
 accepts-requires : tie.Need-accepts-requires
 accepts-requires c κs = search needs
@@ -28,7 +31,8 @@ found-with-spec =
     tie.close
     (tie.spec
     arcs-at-nodes-requires
-    slowest-order-requires
+    slowest-times-requires
+    order-by-requires
     accepts-requires
     returns
     from-slowest-requires

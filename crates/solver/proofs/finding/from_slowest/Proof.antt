@@ -5,9 +5,6 @@ use borrow.Author.Needs.{needs}
 use Rattle.solver.proofs.finding.from_slowest.Statement.{statement}
 use Rattle.solver.proofs.finding.from_slowest.Tie as tie
 
-slowest-times-requires : tie.Need-slowest-times-requires
-slowest-times-requires c κs = search needs
-
 no-loads-requires : tie.Need-no-loads-requires
 no-loads-requires c κs = search needs
 
@@ -26,4 +23,4 @@ returns c = search (crashed-proves)
 pub from-slowest-spec : {M : Type 1} → statement M
 from-slowest-spec =
     tie.close
-    (tie.spec slowest-times-requires no-loads-requires crash-requires decide-requires wrapping-add-u32-requires returns)
+    (tie.spec no-loads-requires crash-requires decide-requires wrapping-add-u32-requires returns)

@@ -6,10 +6,10 @@ use Rattle.solver.proofs.lists.by_start.Statement.{statement}
 use Rattle.solver.proofs.lists.by_start.Tie as tie
 
 abbrev Inv-loop : tie.InvT-loop
-Inv-loop start n parts₀ p₀ parts p = p ≤ n
+Inv-loop t n parts₀ p₀ parts p = p ≤ n
 
 abbrev μ-loop : tie.MeasureT-loop
-μ-loop start n parts₀ p₀ parts p = n - p
+μ-loop t n parts₀ p₀ parts p = n - p
 
 loop-holds : tie.Need-loop-holds Inv-loop μ-loop
 loop-holds c = search needs

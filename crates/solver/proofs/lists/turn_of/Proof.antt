@@ -6,10 +6,10 @@ use Rattle.solver.proofs.lists.turn_of.Statement.{statement}
 use Rattle.solver.proofs.lists.turn_of.Tie as tie
 
 abbrev Inv-loop : tie.InvT-loop
-Inv-loop start n p turn₀ q₀ turn q = (q ≤ n) × (turn ≤ q)
+Inv-loop t n p turn₀ q₀ turn q = (q ≤ n) × (turn ≤ q)
 
 abbrev μ-loop : tie.MeasureT-loop
-μ-loop start n p turn₀ q₀ turn q = n - q
+μ-loop t n p turn₀ q₀ turn q = n - q
 
 loop-holds : tie.Need-loop-holds Inv-loop μ-loop
 loop-holds c = search needs
