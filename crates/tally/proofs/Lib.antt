@@ -1,0 +1,7 @@
+pub mod Outcome
+pub mod Contracts
+pub mod Thin
+pub mod Lending
+pub mod SessionWalk
+pub mod LentLaws
+pub mod SessionLaws
