@@ -74,6 +74,7 @@ fn are_plain(sheet: &[u8], start: usize, end: usize) -> bool
 // The label of line `line`, or an empty stretch at refusal 20.
 pub fn label(sheet: &[u8], line: usize) -> &[u8]
     ensures { λ r. ⌜ now r ≡ labelOf (now (sheet .entry)) line ⌝ }
+    ensures { λ r. ⌜ r .ptr .0 ≡ sheet .entry .ptr .0 ⌝ }
     ensures { λ r. ⌜ r .ptr .1 ≡ sheet .entry .ptr .1 + labelPlace (now (sheet .entry)) line ⌝ }
 {
     let start = line_start(sheet, line);

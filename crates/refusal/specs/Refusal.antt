@@ -1,9 +1,7 @@
--- The table of refusals: their numbers, and what an answer shows. A refusal's place stands beside it in each answer.
+-- The table of refusals: their numbers. A refusal's place stands beside it in each answer.
 -- Assumes nothing.
 use Prim.Native.Nat.{ℕ}
 use Rattle.refusal.specs.declared.Why.{Why}
-use Rattle.refusal.specs.declared.Answer.{Answer}
-use Rattle.refusal.specs.declared.Answer.the-variants.{Done, Refused}
 use Rattle.refusal.specs.declared.Why.the-variants.{
   CutShort,
   NotShortest,
@@ -49,12 +47,3 @@ numberOf NoPart = 17  -- no such part on the board
 numberOf TallyFull = 18  -- tally's sum is 65,535 or more
 numberOf OffCurve = 19  -- delay outside the part's curve
 numberOf NoLabel = 20  -- sheet has no such line or no good label there
-
--- what an answer shows: number and place, both 0 where nothing was refused
-abbrev pub answerNumber : Answer → ℕ
-answerNumber Done = 0
-answerNumber (Refused why place) = numberOf why
-
-abbrev pub answerPlace : Answer → ℕ
-answerPlace Done = 0
-answerPlace (Refused why place) = place
