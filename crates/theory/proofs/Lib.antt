@@ -19,3 +19,4 @@ pub mod Trail
 pub mod Search
 pub mod StrongDuality
 pub mod Existence
+pub mod TickWorth
