@@ -60,10 +60,10 @@ pub fn empty(deadline: Ticks, parts: usize) -> Board
 }
 
 // The usable deadline: the ticks that a path may take.
-pub fn usable_deadline(b: Board) -> u32
-    ensures { λ r. ⌜ r ≡ usable b ⌝ }
+pub fn usable_deadline(b: Board) -> Ticks
+    ensures { λ r. ⌜ r .0 ≡ usable b ⌝ }
 {
-    b.deadline.0
+    b.deadline
 }
 
 // 1 where link a stands before link x in the order of from, then to; else 0.

@@ -13,19 +13,22 @@ use mir.Syntax.{w64}
 use mir.Val.{Fits}
 use borrow.Author.Count.{below-more}
 use borrow.Author.Tests.{not-false}
+use Rattle.base.specs.Table.{table}
 use Rattle.base.proofs.Cases.{finished}
-use Rattle.theory.specs.Sum.{cells}
+use Rattle.base.proofs.TableLaws.{table-at, table-set, firsts-none, firsts-more, firsts-cut, firsts-done}
 use Rattle.theory.specs.Budget.{greatest}
 use Rattle.theory.proofs.SumLaws.{share-eq, share-ne}
 use Rattle.curve.specs.declared.Ticks.{Ticks}
 use Rattle.curve.specs.Curve.{slowestOf}
+use Rattle.curve.specs.Rows.{noTicks, ticksAt, ticksRow}
 use Rattle.curve.proofs.CurveLaws.{slowest-to}
+use Rattle.curve.proofs.RowLaws.{ticks}
 use Rattle.board.specs.declared.Link.{Link}
 use Rattle.board.specs.declared.Board.{Board}
 use Rattle.board.specs.Board.{noLink, curveAt, view, WellFormed}
 use Rattle.board.specs.Tests.{Decides}
-use Rattle.times.specs.Times.{table, firsts, fastestsOf, slowestAt, slowestsOf, wireOf, arrivalOf, startsOf, endsOf, InPlaces, Joined, Summed, Same}
-use Rattle.times.proofs.TableLaws.{table-at, table-set, firsts-none, firsts-more, firsts-cut, firsts-done}
+use Rattle.times.specs.Times.{fastestsOf, slowestAt, slowestsOf, wireOf, inTicks}
+use Rattle.times.specs.Rounds.{arrivalOf, startsOf, endsOf, InPlaces, Same}
 
 -- no link takes more than 255 ticks
 pub wire-to : (l : Link) → wireOf l ≤ 255
@@ -71,86 +74,89 @@ module _ (link : List Link) where
   pub to-below : (n : ℕ) → InPlaces link n → (k : ℕ) → k < n → getD link k noLink .to < 64
   to-below n ok = ok .to-in
 
-pub starts-none : (link : List Link) (e s : List ℕ) → s ≡ table 64 (λ p. 0) → s ≡ startsOf link 0 e
+pub starts-none : (link : List Link) (e s : List Ticks) → s ≡ table 64 (λ p. noTicks) → s ≡ startsOf link 0 e
 unfolding startsOf arrivalOf greatest
 starts-none link e s is = is
 
-module _ (link : List Link) (n : ℕ) (e s : List ℕ) (k : ℕ) (h : k < n) where
-  pub starts-more : (w : ℕ) (arrival : Ticks) (v : ℕ) → w ≡ wireOf (getD link k noLink) → arrival .0 ≡ min (getD e (getD link k noLink .from) 0 + w) 4294967295
-      → v ≡ max (getD s (getD link k noLink .to) 0) (arrival .0) → (Joined link n e → s ≡ startsOf link k e) → Joined link n e
+module _ (link : List Link) (n : ℕ) (e s : List Ticks) (k : ℕ) (ok : InPlaces link n) (h : k < n) where
+  pub starts-more : (w arrival v : Ticks) → w .0 ≡ wireOf (getD link k noLink)
+      → arrival .0 ≡ min (ticksAt e (getD link k noLink .from) + w .0) 4294967295
+      → v .0 ≡ max (ticksAt s (getD link k noLink .to)) (arrival .0) → s ≡ startsOf link k e
       → set s (getD link k noLink .to) v ≡ startsOf link (k + 1) e
   unfolding startsOf arrivalOf greatest
-  starts-more w arrival v isw isa isv before ok =
+  starts-more w arrival v isw isa isv is =
       let t = getD link k noLink .to in
       let f = getD link k noLink .from in
-      let a = cells e f + wireOf (getD link k noLink) in
-      let is = before ok in
-      let a-is : arrival .0 ≡ a = isa ∙ rw isw (omega (arith, ok .ends-to f (ok .from-in k h), wire-to (getD link k noLink))) in
+      let a = inTicks (ticksAt e f + wireOf (getD link k noLink)) in
+      let a-is : arrival .0 ≡ a = isa ∙ ap (λ (x : ℕ). inTicks (ticksAt e f + x)) isw in
+      let was : ticksAt s t ≡ arrivalOf link e k t =
+      rw is (ap (λ (x : Ticks). x .0) (table-at noTicks 64 (λ p. ticks (arrivalOf link e k p)) t (ok .to-in k h))) in
       rw (add-one, is)
-      (table-set 64 (arrivalOf link e k) (arrivalOf link e (suc k)) t v (ok .to-in k h)
-      (isv ∙ rw (a-is, is, table-at 64 (arrivalOf link e k) t (ok .to-in k h), share-eq {p = t} a refl))
-      (λ j l d. omega (arith, share-ne {p = t} {i = j} a (λ q. d (sym q)))))
+      (table-set noTicks 64 (λ p. ticks (arrivalOf link e k p)) (λ p. ticks (arrivalOf link e (suc k) p)) t v (ok .to-in k h)
+      (ap ticks (omega (arith, isv, a-is, was, share-eq {p = t} a refl)))
+      (λ j l d. ap ticks (omega (arith, share-ne {p = t} {i = j} a (λ q. d (sym q))))))
 
-pub starts-done : (link : List Link) (e s : List ℕ) (k n : ℕ) → k ≤ n → n ≤ k → (Joined link n e → s ≡ startsOf link k e) → Joined link n e → s ≡ startsOf link n e
-starts-done link e s k n l h is ok = finished (λ i. startsOf link i e) l h (is ok)
+pub starts-done : (link : List Link) (e s : List Ticks) (k n : ℕ) → k ≤ n → n ≤ k → s ≡ startsOf link k e → s ≡ startsOf link n e
+starts-done link e s k n = finished (λ i. startsOf link i e)
 
 -- ---- ends
-pub ends-none : (s delay e : List ℕ) → e ≡ table 64 (λ p. 0) → e ≡ endsOf s delay 0
-unfolding endsOf
-ends-none s delay = firsts-none _
+module _ (s delay e : List Ticks) where
+  pub ends-none : e ≡ table 64 (λ p. noTicks) → e ≡ endsOf s delay 0
+  unfolding endsOf
+  ends-none = firsts-none noTicks _ e
 
-pub ends-more : (s delay : List ℕ) (n : ℕ) (e : List ℕ) (k : ℕ) (end : Ticks) → k < n → end .0 ≡ min (getD s k 0 + getD delay k 0) 4294967295
-    → (Summed s delay n → e ≡ endsOf s delay k) → Summed s delay n → set e k (end .0) ≡ endsOf s delay (k + 1)
-unfolding endsOf
-ends-more s delay n e k end h sums before ok =
-    firsts-more _ e k (end .0) (omega (arith, ok .parts-to)) (before ok) (omega (arith, ok .starts-to k h, ok .delays-to k h))
+  pub ends-more : (n k : ℕ) (end : Ticks) → n ≤ 64 → k < n → end .0 ≡ min (ticksAt s k + ticksAt delay k) 4294967295 → e ≡ endsOf s delay k
+      → set e k end ≡ endsOf s delay (k + 1)
+  unfolding endsOf
+  ends-more n k end few h sum is = firsts-more noTicks _ e k end (omega arith) is (ap ticks sum)
 
-pub ends-done : (s delay e : List ℕ) (k n : ℕ) → k ≤ n → n ≤ k → (Summed s delay n → e ≡ endsOf s delay k) → Summed s delay n → e ≡ endsOf s delay n
-ends-done s delay e k n l h is ok = finished (endsOf s delay) l h (is ok)
+  pub ends-done : (k n : ℕ) → k ≤ n → n ≤ k → e ≡ endsOf s delay k → e ≡ endsOf s delay n
+  ends-done k n = finished (endsOf s delay)
 
 -- ---- fastest_delays, slowest_delays
-module _ (b : Board) (d : List ℕ) where
-  pub fastest-none : d ≡ table 64 (λ p. 0) → d ≡ firsts 0 (view b .fastest)
-  fastest-none = firsts-none _ d
+module _ (b : Board) (d : List Ticks) where
+  pub fastest-none : d ≡ table 64 (λ p. noTicks) → d ≡ ticksRow 0 (view b .fastest)
+  fastest-none = firsts-none noTicks _ d
 
-  pub fastest-more : (n k : ℕ) → n ≡ min (b .parts) 64 → k < n → d ≡ firsts k (view b .fastest)
-      → set d k (curveAt b k .fastest .0) ≡ firsts (k + 1) (view b .fastest)
+  pub fastest-more : (n k : ℕ) → n ≡ min (b .parts) 64 → k < n → d ≡ ticksRow k (view b .fastest)
+      → set d k (curveAt b k .fastest) ≡ ticksRow (k + 1) (view b .fastest)
   unfolding view
-  fastest-more n k cut h is = firsts-more _ d k _ (omega arith) is refl
+  fastest-more n k cut h is = firsts-more noTicks _ d k _ (omega arith) is refl
 
-  pub fastest-done : (n k : ℕ) → n ≡ min (b .parts) 64 → k ≤ n → n ≤ k → d ≡ firsts k (view b .fastest) → d ≡ fastestsOf b
+  pub fastest-done : (n k : ℕ) → n ≡ min (b .parts) 64 → k ≤ n → n ≤ k → d ≡ ticksRow k (view b .fastest) → d ≡ fastestsOf b
   unfolding fastestsOf
-  fastest-done n k cut l h is = firsts-done _ d k n l h is ∙ rw cut (firsts-cut _ (b .parts))
+  fastest-done n k cut l h is = firsts-done noTicks _ d k n l h is ∙ rw cut (firsts-cut noTicks _ (b .parts))
 
-  pub slowest-none : d ≡ table 64 (λ p. 0) → d ≡ firsts 0 (slowestAt b)
-  slowest-none = firsts-none _ d
+  pub slowest-none : d ≡ table 64 (λ p. noTicks) → d ≡ ticksRow 0 (slowestAt b)
+  slowest-none = firsts-none noTicks _ d
 
   pub slowest-more : (n k : ℕ) → n ≡ min (b .parts) 64 → k < n → (slowest : Ticks) → slowest .0 ≡ min (slowestOf (curveAt b k)) 4294967295
-      → (WellFormed b → d ≡ firsts k (slowestAt b)) → WellFormed b → set d k (slowest .0) ≡ firsts (k + 1) (slowestAt b)
+      → (WellFormed b → d ≡ ticksRow k (slowestAt b)) → WellFormed b → set d k slowest ≡ ticksRow (k + 1) (slowestAt b)
   unfolding slowestAt
   slowest-more n k cut h slowest new is ok =
-      firsts-more _ d k (slowest .0) (omega arith) (is ok) (omega (arith, slowest-to (curveAt b k) (ok .curves k (omega arith))))
+      firsts-more noTicks _ d k slowest (omega arith) (is ok)
+      (ap ticks (omega (arith, new, slowest-to (curveAt b k) (ok .curves k (omega arith)))))
 
-  pub slowest-done : (n k : ℕ) → n ≡ min (b .parts) 64 → k ≤ n → n ≤ k → (WellFormed b → d ≡ firsts k (slowestAt b)) → WellFormed b → d ≡ slowestsOf b
+  pub slowest-done : (n k : ℕ) → n ≡ min (b .parts) 64 → k ≤ n → n ≤ k → (WellFormed b → d ≡ ticksRow k (slowestAt b)) → WellFormed b → d ≡ slowestsOf b
   unfolding slowestsOf
-  slowest-done n k cut l h is ok = firsts-done _ d k n l h (is ok) ∙ rw cut (firsts-cut _ (b .parts))
+  slowest-done n k cut l h is ok = firsts-done noTicks _ d k n l h (is ok) ∙ rw cut (firsts-cut noTicks _ (b .parts))
 
 -- ---- same
-pub record Alike (a b : List ℕ) (k : ℕ) : Type 0 where
-  pub below : (j : ℕ) → j < k → getD a j 0 ≡ getD b j 0
+pub record Alike (a b : List Ticks) (k : ℕ) : Type 0 where
+  pub below : (j : ℕ) → j < k → ticksAt a j ≡ ticksAt b j
 
-module _ (a b : List ℕ) where
+module _ (a b : List Ticks) where
   pub alike-none : Alike a b 0
   alike-none = record { below = λ j h. absurd (omega arith) }
 
-  pub alike-more : (k : ℕ) → Alike a b k → getD a k 0 ≡ getD b k 0 → Alike a b (k + 1)
+  pub alike-more : (k : ℕ) → Alike a b k → ticksAt a k ≡ ticksAt b k → Alike a b (k + 1)
   alike-more k all here = record { below = below-more _ k (all .below) here }
 
-  pub differ : (k : ℕ) → (getD a k 0 ≡ getD b k 0 → ⊥) → Same a b false
-  differ k d = record { alike = never; unlike = λ _ e. d (ap (λ (l : List ℕ). getD l k 0) e) }
+  pub differ : (k : ℕ) → (ticksAt a k ≡ ticksAt b k → ⊥) → Same a b false
+  differ k d = record { alike = never; unlike = λ _ e. d (ap (λ (l : List Ticks). ticksAt l k) e) }
 
   pub agree : (k : ℕ) → length a ≡ 64 → length b ≡ 64 → 64 ≤ k → Alike a b k → Same a b true
   agree k la lb h all = record {
-    alike = λ _. ext-getD 0 a b (la ∙ sym lb) (λ i l. all .below i (omega (arith, la)));
+    alike = λ _. ext-getD noTicks a b (la ∙ sym lb) (λ i l. ap ticks (all .below i (omega (arith, la))));
     unlike = λ q. never (sym q);
   }

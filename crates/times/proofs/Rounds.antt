@@ -1,233 +1,242 @@
--- The ways of `times_of`: after i rounds no end is above 2298 * i; a round that changes nothing is timed; and where numbers rise along
--- the links, a part is settled once the rounds pass its number.
+-- What a round leaves as it is, on links that make no loop, are the times cut to their type; and rounds from nothing come to that: a part is settled
+-- once the rounds pass its rank.
 -- Assumes nothing.
 use mathlib.Core.Path.{_≡_, refl, sym, ap, _∙_}
 use mathlib.Core.Logic.{⊎-elim}
 use mathlib.Core.Bool.{Bool, true, false, not}
 use mathlib.Core.List.{List}
-use Prim.Native.Nat.{ℕ, zero, suc, min, _+_, _*_, _≤_, _<_}
+use Prim.Native.Nat.{ℕ, zero, suc, min, _+_, _≤_, _<_}
 use native.Mathlib.Omega.{arith}
+use native.Mathlib.Decide.{ℕ-discrete}
 use native.Mathlib.Numerals.{add-one}
-use lib.ListN.{length}
+use lib.ListN.{length, getD}
 use borrow.Author.Tests.{not-true}
+use Rattle.base.specs.Table.{table}
 use Rattle.base.proofs.Cases.{lt-or-le}
-use Rattle.theory.specs.Sum.{cells}
-use Rattle.theory.specs.Budget.{arrive}
-use Rattle.theory.proofs.ArriveLaws.{arrive-le, arrive-ext}
+use Rattle.base.proofs.TableLaws.{table-length, table-at, table-past, firsts-room}
+use Rattle.theory.specs.Sum.{share}
+use Rattle.theory.specs.Budget.{greatest, arrive, Timed}
+use Rattle.theory.proofs.SumLaws.{share-eq, share-ne}
+use Rattle.theory.proofs.ArriveLaws.{greatest-le}
+use Rattle.theory.proofs.Rounds.{round, timed-is}
+use Rattle.curve.specs.declared.Ticks.{Ticks}
+use Rattle.curve.specs.Rows.{noTicks, ticksAt}
+use Rattle.curve.proofs.RowLaws.{ticks, ticks-at, ticks-past, same-ticks}
 use Rattle.board.specs.declared.Link.{Link}
-use Rattle.board.specs.declared.Board.{Board}
-use Rattle.board.specs.Board.{linkAt, view, WellFormed}
+use Rattle.board.specs.Board.{noLink}
 use Rattle.board.specs.Tests.{Decides}
 use Rattle.times.specs.declared.Schedule.{Schedule}
-use Rattle.times.specs.Times.{table, wireOf, arrivalOf, startsOf, endsOf, InPlaces, Joined, Summed, Same, Timeable, TimesOf}
-use Rattle.times.proofs.TableLaws.{table-length, table-at, table-past, firsts-at, firsts-past, firsts-room}
-use Rattle.times.proofs.Loops.{wire-at}
+use Rattle.times.specs.Times.{wireOf, inTicks, graphOf, TimesOf, LooplessBy}
+use Rattle.times.specs.Rounds.{arrivalOf, startsOf, endsOf, Still, InPlaces, Same}
 
 true-false : (t : Bool) → t ≡ true → t ≡ false → ⊥
 true-false t p q = let z : _≡_ {A = ℕ} 0 1 = cc in omega arith
 
--- the ends after some rounds
-unfoldable pub roundOf : List Link → ℕ → ℕ → List ℕ → ℕ → List ℕ
-roundOf link links parts delay zero = table 64 (λ p. 0)
-roundOf link links parts delay (suc i) = endsOf (startsOf link links (roundOf link links parts delay i)) delay parts
+-- ---- the last of some arrivals, each cut to its type
+module _ (to : ℕ → ℕ) (p : ℕ) where
+  -- is the last arrival, cut,
+  greatest-cut : (m : ℕ) (f g : ℕ → ℕ) → ((l : ℕ) → l < m → to l ≡ p → inTicks (f l) ≡ inTicks (g l)) →
+      greatest m (λ l. share (to l) p (inTicks (f l))) ≡ inTicks (greatest m (λ l. share (to l) p (g l)))
+  unfolding greatest
+  greatest-cut zero f g same = omega arith
+  greatest-cut (suc m) f g same =
+      let before = greatest-cut m f g (λ l h. same l (omega arith)) in
+      elim (ℕ-discrete (to m) p) [
+        | yes q ↦ omega (arith, before, share-eq (inTicks (f m)) q, share-eq (g m) q, same m (omega arith) q)
+        | no d ↦ omega (arith, before, share-ne (inTicks (f m)) d, share-ne (g m) d)
+      ]
 
--- ---- what the loops make, part by part
-module _ (b : Board) (ok : WellFormed b) (e : List ℕ) where
-  arrival-is : (p : ℕ) → arrivalOf (b .link) e (b .links) p ≡ arrive (view b) (cells e) p
-  unfolding arrivalOf arrive view wireOf
-  arrival-is p = refl
+  -- and goes by the links to p alone
+  greatest-same : (m : ℕ) (f g : ℕ → ℕ) → ((l : ℕ) → l < m → to l ≡ p → f l ≡ g l) →
+      greatest m (λ l. share (to l) p (f l)) ≡ greatest m (λ l. share (to l) p (g l))
+  unfolding greatest
+  greatest-same zero f g same = refl
+  greatest-same (suc m) f g same =
+      let before = greatest-same m f g (λ l h. same l (omega arith)) in
+      elim (ℕ-discrete (to m) p) [
+        | yes q ↦ omega (arith, before, share-eq (f m) q, share-eq (g m) q, same m (omega arith) q)
+        | no d ↦ omega (arith, before, share-ne (f m) d, share-ne (g m) d)
+      ]
 
-  pub starts-at : (p : ℕ) → p < b .parts → cells (startsOf (b .link) (b .links) e) p ≡ arrive (view b) (cells e) p
+module _ (link : List Link) (links parts : ℕ) (ok : LooplessBy link links parts) where
+  abbrev from : ℕ → ℕ
+  from l = getD link l noLink .from
+
+  abbrev to : ℕ → ℕ
+  to l = getD link l noLink .to
+
+  -- ---- what the loops make, part by part
+  starts-at : (e : List Ticks) (p : ℕ) → p < 64 → ticksAt (startsOf link links e) p ≡ arrivalOf link e links p
   unfolding startsOf
-  starts-at p h = table-at 64 (arrivalOf (b .link) e (b .links)) p (omega (arith, ok .parts-to)) ∙ arrival-is p
+  starts-at e p h = ap (λ (t : Ticks). t .0) (table-at noTicks 64 (λ q. ticks (arrivalOf link e links q)) p h)
 
   -- no link leads to a place without a part
-  pub starts-past : (p : ℕ) → b .parts ≤ p → cells (startsOf (b .link) (b .links) e) p ≡ 0
-  unfolding startsOf view
-  starts-past p h =
-      ⊎-elim
-      (λ (l : p < 64). table-at 64 (arrivalOf (b .link) e (b .links)) p l ∙ arrival-is p ∙ none)
-      (table-past 64 (arrivalOf (b .link) e (b .links)) p)
-      (lt-or-le p 64)
-    where
-      none : arrive (view b) (cells e) p ≡ 0
-      none = omega (arith, arrive-le (view b) (cells e) p 0 (λ l k q. absurd (omega (arith, ok .to-in l k))))
+  arrival-past : (e : List Ticks) (p : ℕ) → parts ≤ p → arrivalOf link e links p ≡ 0
+  unfolding arrivalOf
+  arrival-past e p h =
+      let arrival : ℕ → ℕ = λ l. inTicks (ticksAt e (from l) + wireOf (getD link l noLink)) in
+      omega (
+        arith,
+        greatest-le links (λ l. share (to l) p (arrival l)) 0
+            (λ l k. omega (arith, share-ne {p = to l} {i = p} (arrival l) (λ q. absurd (omega (arith, ok .to-in l k))))),
+      )
 
-  pub starts-room : length (startsOf (b .link) (b .links) e) ≡ 64
+  starts-past : (e : List Ticks) (p : ℕ) → parts ≤ p → ticksAt (startsOf link links e) p ≡ 0
   unfolding startsOf
-  starts-room = table-length 64 _
+  starts-past e p h =
+      ⊎-elim (λ (l : p < 64). starts-at e p l ∙ arrival-past e p h)
+      (λ (l : 64 ≤ p). ap (λ (t : Ticks). t .0) (table-past noTicks 64 (λ q. ticks (arrivalOf link e links q)) p l)) (lt-or-le p 64)
 
-module _ (s delay : List ℕ) (n : ℕ) where
-  pub ends-at : n ≤ 64 → (p : ℕ) → p < n → cells (endsOf s delay n) p ≡ cells s p + cells delay p
-  unfolding endsOf
-  ends-at = firsts-at _ n
+  starts-room : (e : List Ticks) → length (startsOf link links e) ≡ 64
+  unfolding startsOf
+  starts-room e = table-length 64 _
 
-  pub ends-past : (p : ℕ) → n ≤ p → cells (endsOf s delay n) p ≡ 0
-  unfolding endsOf
-  ends-past = firsts-past _ n
+  module _ (s delay : List Ticks) where
+    ends-at : (p : ℕ) → p < parts → ticksAt (endsOf s delay parts) p ≡ inTicks (ticksAt s p + ticksAt delay p)
+    unfolding endsOf
+    ends-at = ticks-at parts _ (ok .parts-to)
 
-  pub ends-room : length (endsOf s delay n) ≡ 64
-  unfolding endsOf
-  ends-room = firsts-room _ n
+    ends-past : (p : ℕ) → parts ≤ p → ticksAt (endsOf s delay parts) p ≡ 0
+    unfolding endsOf
+    ends-past = ticks-past parts _
 
--- ---- rounds of a board
-module _ (b : Board) (delay : List ℕ) (ok : Timeable b delay) where
-  abbrev ends-after : ℕ → List ℕ
-  ends-after i = roundOf (b .link) (b .links) (b .parts) delay i
+    ends-room : length (endsOf s delay parts) ≡ 64
+    unfolding endsOf
+    ends-room = firsts-room noTicks _ parts
 
-  after-at : (i p : ℕ) → p < b .parts → cells (ends-after (suc i)) p ≡ arrive (view b) (cells (ends-after i)) p + cells delay p
+  -- ---- what a round leaves as it is, beside the times s, e of these delays
+  module _ (delay : List Ticks) (r : Schedule) (still : Still link links parts delay r) where
+    module _ (s e : ℕ → ℕ) (t : Timed (graphOf link links parts) (ticksAt delay) s e) where
+      start-cut : (p : ℕ) → p < parts → ((l : ℕ) → l < links → to l ≡ p → ticksAt (r .end) (from l) ≡ inTicks (e (from l))) →
+          ticksAt (r .start) p ≡ inTicks (s p)
+      unfolding arrivalOf graphOf arrive
+      start-cut p h ends =
+          ap (λ (row : List Ticks). ticksAt row p) (still .starts) ∙ starts-at (r .end) p (omega (arith, ok .parts-to))
+          ∙ greatest-cut to p links (λ l. ticksAt (r .end) (from l) + wireOf (getD link l noLink)) (λ l. e (from l) + wireOf (getD link l noLink))
+          (λ l k q. omega (arith, ends l k q))
+          ∙ ap (λ (n : ℕ). inTicks n) (sym (t .starts p h))
+
+      end-cut : (p : ℕ) → p < parts → ticksAt (r .start) p ≡ inTicks (s p) → ticksAt (r .end) p ≡ inTicks (e p)
+      unfolding graphOf
+      end-cut p h at =
+          omega (arith, ap (λ (row : List Ticks). ticksAt row p) (still .ends), ends-at (r .start) delay p h, t .ends p h)
+
+      each-cut : (bound p : ℕ) → p < parts → ok .ranked .rank p < bound → ticksAt (r .start) p ≡ inTicks (s p)
+      unfolding graphOf
+      each-cut zero p h l = absurd (omega arith)
+      each-cut (suc bound) p h l =
+          start-cut p h
+          (λ k m q.
+          let i = ok .from-in k m in
+          end-cut (from k) i (each-cut bound (from k) i (omega (arith, ok .ranked .rises k m, ap (ok .ranked .rank) q))))
+
+    pub still-times : TimesOf (graphOf link links parts) delay r
+    unfolding graphOf
+    still-times =
+        let t = timed-is (graphOf link links parts) (ticksAt delay) (ok .ranked) in
+        let start : (p : ℕ) → p < parts → ticksAt (r .start) p ≡ inTicks (round (graphOf link links parts) (ticksAt delay) 65 p) =
+        λ p h. each-cut _ _ t (suc (ok .ranked .rank p)) p h (omega arith) in
+        record {
+          start = _;
+          end = _;
+          timed = t;
+          starts = start;
+          ends = λ p h. end-cut _ _ t p h (start p h);
+          start-blank = λ p h. ap (λ (row : List Ticks). ticksAt row p) (still .starts) ∙ starts-past (r .end) p h;
+          end-blank = λ p h. ap (λ (row : List Ticks). ticksAt row p) (still .ends) ∙ ends-past (r .start) delay p h;
+          start-room = ap (λ (row : List Ticks). length row) (still .starts) ∙ starts-room (r .end);
+          end-room = ap (λ (row : List Ticks). length row) (still .ends) ∙ ends-room (r .start) delay;
+        }
+
+-- ---- rounds from nothing: the ends after some of them
+unfoldable pub roundOf : List Link → ℕ → ℕ → List Ticks → ℕ → List Ticks
+roundOf link links parts delay zero = table 64 (λ p. noTicks)
+roundOf link links parts delay (suc i) = endsOf (startsOf link links (roundOf link links parts delay i)) delay parts
+
+module _ (link : List Link) (links parts : ℕ) (delay : List Ticks) where
+  abbrev after : ℕ → List Ticks
+  after i = roundOf link links parts delay i
+
+  pub round-none : (e : List Ticks) → e ≡ table 64 (λ p. noTicks) → e ≡ after 0
   unfolding roundOf
-  after-at i p h =
-      ends-at (startsOf (b .link) (b .links) (ends-after i)) delay (b .parts) (ok .formed .parts-to) p h
-      ∙ ap (λ v. v + cells delay p) (starts-at b (ok .formed) (ends-after i) p h)
+  round-none e is = is
 
-  none-at : (p : ℕ) → cells (ends-after 0) p ≡ 0
+  pub round-more : (e s f : List Ticks) (k : ℕ) → e ≡ after k → s ≡ startsOf link links e → f ≡ endsOf s delay parts → f ≡ after (k + 1)
   unfolding roundOf
-  none-at p = ⊎-elim (table-at 64 (λ q. 0) p) (table-past 64 (λ q. 0) p) (lt-or-le p 64)
+  round-more e s f k is starts ends = rw (add-one, ← is, ← starts) ends
 
-  after-past : (i p : ℕ) → b .parts ≤ p → cells (ends-after i) p ≡ 0
+  module _ (ok : LooplessBy link links parts) where
+    -- a part is settled once the rounds pass its rank
+    settles : (i p : ℕ) → p < parts → ok .ranked .rank p < i → ticksAt (after (suc i)) p ≡ ticksAt (after i) p
+    unfolding roundOf arrivalOf graphOf
+    settles zero p h l = absurd (omega arith)
+    settles (suc i) p h l =
+        let here : p < 64 = omega (arith, ok .parts-to) in
+        let arrivals : arrivalOf link (after (suc i)) links p ≡ arrivalOf link (after i) links p =
+        greatest-same (λ k. getD link k noLink .to) p links _ _
+        (λ k m q.
+        omega (
+          arith,
+          settles i (getD link k noLink .from) (ok .from-in k m) (omega (arith, ok .ranked .rises k m, ap (ok .ranked .rank) q)),
+        )) in
+        omega (
+          arith,
+          arrivals,
+          ends-at link links parts ok (startsOf link links (after (suc i))) delay p h,
+          ends-at link links parts ok (startsOf link links (after i)) delay p h,
+          starts-at link links parts ok (after (suc i)) p here,
+          starts-at link links parts ok (after i) p here,
+        )
+
+    settled : after 66 ≡ after 65
+    unfolding roundOf graphOf
+    settled =
+        same-ticks parts (after 66) (after 65) (ends-room link links parts ok _ delay) (ends-room link links parts ok _ delay)
+        (λ p h. settles 65 p h (ok .ranked .below p h)) (ends-past link links parts ok _ delay) (ends-past link links parts ok _ delay)
+
+  -- ---- the returns of `in_rounds`: as many rounds as there are ranks, or one that changed nothing
+  pub rounds-still : (e s : List Ticks) (k : ℕ) → e ≡ after k → k ≤ 65 → 65 ≤ k → s ≡ startsOf link links e → LooplessBy link links parts →
+      Still link links parts delay (record { start = s; end = e })
   unfolding roundOf
-  after-past zero p h = none-at p
-  after-past (suc i) p h = ends-past _ delay (b .parts) p h
-
-  after-room : (i : ℕ) → length (ends-after i) ≡ 64
-  unfolding roundOf
-  after-room zero = table-length 64 _
-  after-room (suc i) = ends-room _ delay (b .parts)
-
-  arrive-to : (e : ℕ → ℕ) (m : ℕ) → ((p : ℕ) → e p ≤ m) → (p : ℕ) → arrive (view b) e p ≤ m + 255
-  arrive-to e m to p = arrive-le (view b) e p (m + 255) (λ l k q. omega (arith, to (view b .from l), wire-at b l))
-
-  after-to : (i p : ℕ) → cells (ends-after i) p ≤ 2298 * i
-  after-to zero p = omega (arith, none-at p)
-  after-to (suc i) p =
-      ⊎-elim
-      (λ (h : p < b .parts). omega (arith, after-at i p h, arrive-to (cells (ends-after i)) (2298 * i) (after-to i) p, ok .delays-to p h))
-      (λ (h : b .parts ≤ p). omega (arith, after-past (suc i) p h))
-      (lt-or-le p (b .parts))
-
-  module _ (e : List ℕ) (k : ℕ) (is : e ≡ ends-after k) (h : k ≤ 65) where
-    joined : Joined (b .link) (b .links) e
-    joined = record {
-      links-to = ok .formed .links-to;
-      from-in = λ l i. omega (arith, ok .formed .from-in l i, ok .formed .parts-to);
-      to-in = λ l i. omega (arith, ok .formed .to-in l i, ok .formed .parts-to);
-      ends-to = λ p i. rw is (omega (arith, after-to k p));
-    }
-
-    summed : (s : List ℕ) → s ≡ startsOf (b .link) (b .links) e → Summed s delay (b .parts)
-    summed s starts = record {
-      parts-to = ok .formed .parts-to;
-      starts-to = λ p i. rw (starts, is) (omega (arith, starts-at b (ok .formed) (ends-after k) p i, arrive-to (cells (ends-after k)) (2298 * k) (after-to k) p));
-      delays-to = ok .delays-to;
-    }
-
-  -- starts by the ends, and ends by the starts
-  timed : (s e : List ℕ) → s ≡ startsOf (b .link) (b .links) e
-      → ((p : ℕ) → p < b .parts → cells e p ≡ arrive (view b) (cells e) p + cells delay p)
-      → ((p : ℕ) → b .parts ≤ p → cells e p ≡ 0) → length e ≡ 64 → TimesOf b delay (record { start = s; end = e })
-  unfolding view
-  timed s e is sums blank room = rw is (record {
-    timed = record {
-      starts = starts-at b (ok .formed) e;
-      ends = λ p h. sums p h ∙ ap (λ v. v + cells delay p) (sym (starts-at b (ok .formed) e p h));
-    };
-    start-blank = starts-past b (ok .formed) e;
-    end-blank = blank;
-    start-room = starts-room b (ok .formed) e;
-    end-room = room;
-  })
-
-  -- a round that changed nothing
-  stopped : (e s f : List ℕ) (t : Bool) → s ≡ startsOf (b .link) (b .links) e → f ≡ endsOf s delay (b .parts) → Same f e t → t ≡ true
-      → TimesOf b delay (record { start = s; end = f })
-  stopped e s f t is₀ is₁ same it =
-      let still : f ≡ e = same .alike it in
-      let starts : s ≡ startsOf (b .link) (b .links) f = rw still is₀ in
-      timed s f starts
-      (λ p h.
-      let start : cells s p ≡ arrive (view b) (cells f) p = rw starts (starts-at b (ok .formed) f p h) in
-      let end : cells f p ≡ cells s p + cells delay p = rw is₁ (ends-at s delay (b .parts) (ok .formed .parts-to) p h) in
-      omega arith)
-      (λ p h. rw is₁ (ends-past s delay (b .parts) p h))
-      (rw is₁ (ends-room s delay (b .parts)))
-
-  after-settles : (i p : ℕ) → p < b .parts → ok .ranked .rank p < i → cells (ends-after (suc i)) p ≡ cells (ends-after i) p
-  unfolding view
-  after-settles zero p h l = absurd (omega arith)
-  after-settles (suc i) p h l =
-      after-at (suc i) p h
-      ∙ ap (λ v. v + cells delay p)
-      (arrive-ext (view b) (cells (ends-after (suc i))) (cells (ends-after i)) p
-      (λ k m q.
-      after-settles i (linkAt b k .from) (ok .formed .from-in k m)
-      (omega (arith, ok .ranked .rises k m, ap (ok .ranked .rank) q))))
-      ∙ sym (after-at i p h)
-
-  -- as many rounds as there are ranks
-  settled : (e s : List ℕ) (k : ℕ) → e ≡ ends-after k → k ≤ 65 → 65 ≤ k → s ≡ startsOf (b .link) (b .links) e → TimesOf b delay (record { start = s; end = e })
-  unfolding view
-  settled e s k is h l starts =
+  rounds-still e s k is h l starts ok =
       let all : k ≡ 65 = omega arith in
-      let e65 : e ≡ ends-after 65 = is ∙ ap ends-after all in
-      rw e65
-      (timed s (ends-after 65) (rw e65 at starts)
-      (λ p i. sym (after-settles 65 p i (ok .ranked .below p i)) ∙ after-at 65 p i)
-      (after-past 65)
-      (after-room 65))
-
--- ---- the loop of `times_of`: `e` are the ends after k rounds, on each board that has these links and parts and can be timed
-pub record After (link : List Link) (links parts : ℕ) (delay e : List ℕ) (k : ℕ) : Type 0 where
-  pub is : (b : Board) → link ≡ b .link → links ≡ b .links → parts ≡ b .parts → Timeable b delay → e ≡ roundOf (b .link) (b .links) (b .parts) delay k
-
-module _ (link : List Link) (links parts : ℕ) (delay e : List ℕ) where
-  pub after-none : e ≡ table 64 (λ p. 0) → After link links parts delay e 0
-  unfolding roundOf
-  after-none is = record { is = λ b _ _ _ _. is }
-
-  module _ (k : ℕ) (before : After link links parts delay e k) (h : k ≤ 65) (s : List ℕ) (began : Joined link links e → s ≡ startsOf link links e) where
-    starts-are : (b : Board) → link ≡ b .link → links ≡ b .links → parts ≡ b .parts → Timeable b delay → s ≡ startsOf (b .link) (b .links) e
-    starts-are b q₁ q₂ q₃ ok = (rw (q₁, q₂) at began) (joined b delay ok e k (before .is b q₁ q₂ q₃ ok) h)
-
-    module _ (f : List ℕ) (ended : Summed s delay parts → f ≡ endsOf s delay parts) where
-      ends-are : (b : Board) → link ≡ b .link → links ≡ b .links → parts ≡ b .parts → Timeable b delay → f ≡ endsOf s delay (b .parts)
-      ends-are b q₁ q₂ q₃ ok = (rw q₃ at ended) (summed b delay ok e k (before .is b q₁ q₂ q₃ ok) h s (starts-are b q₁ q₂ q₃ ok))
-
-      pub after-more : After link links parts delay f (k + 1)
-      unfolding roundOf
-      after-more = record {
-        is = λ b q₁ q₂ q₃ ok. rw (add-one, ← before .is b q₁ q₂ q₃ ok, ← starts-are b q₁ q₂ q₃ ok) (ends-are b q₁ q₂ q₃ ok);
+      let e65 : e ≡ after 65 = is ∙ ap after all in
+      record {
+        starts = starts;
+        ends = e65 ∙ sym (settled ok) ∙ ap (λ (row : List Ticks). endsOf (startsOf link links row) delay parts) (sym e65)
+            ∙ ap (λ (row : List Ticks). endsOf row delay parts) (sym starts);
       }
 
--- ---- its returns: a board that can be timed has its links in place, and the counts that were cut are its own
-pub no-places : (b : Board) (delay : List ℕ) (links : ℕ) (t : Bool) → links ≡ min (b .links) 256 → Decides t (InPlaces (b .link) links) → not t ≡ true
-    → (r : Schedule) → Timeable b delay → TimesOf b delay r
-no-places b delay links t cut test fails r ok = absurd (true-false t (test .no places) (not-true t fails))
-  where
-    places : InPlaces (b .link) links
-    places = record {
-      from-in = λ l h. omega (arith, ok .formed .from-in l (omega arith), ok .formed .parts-to);
-      to-in = λ l h. omega (arith, ok .formed .to-in l (omega arith), ok .formed .parts-to);
-    }
+  pub round-still : (e s f : List Ticks) (t : Bool) → s ≡ startsOf link links e → f ≡ endsOf s delay parts → Same f e t → t ≡ true →
+      LooplessBy link links parts → Still link links parts delay (record { start = s; end = f })
+  round-still e s f t starts ends same it ok =
+      record { starts = starts ∙ ap (λ (row : List Ticks). startsOf link links row) (sym (same .alike it)); ends = ends }
 
-module _ (b : Board) (delay : List ℕ) (links parts : ℕ) (links-cut : links ≡ min (b .links) 256) (parts-cut : parts ≡ min (b .parts) 64) (e : List ℕ) (k : ℕ)
-    (before : After (b .link) links parts delay e k) (s : List ℕ) (began : Joined (b .link) links e → s ≡ startsOf (b .link) links e) where
-  links-are : Timeable b delay → links ≡ b .links
-  links-are ok = omega (arith, ok .formed .links-to)
+-- ---- the returns of `times_by`: links without a loop are in their places, and the counts that were cut are their own
+module _ (link : List Link) (links parts : ℕ) (delay : List Ticks) (l n : ℕ) (links-cut : l ≡ min links 256) (parts-cut : n ≡ min parts 64) where
+  links-are : LooplessBy link links parts → l ≡ links
+  links-are ok = omega (arith, ok .links-to)
 
-  parts-are : Timeable b delay → parts ≡ b .parts
-  parts-are ok = omega (arith, ok .formed .parts-to)
+  parts-are : LooplessBy link links parts → n ≡ parts
+  parts-are ok = omega (arith, ok .parts-to)
 
-  pub stops : (f : List ℕ) (t : Bool) → k < 65 → (Summed s delay parts → f ≡ endsOf s delay parts) → Same f e t → t ≡ true → Timeable b delay
-      → TimesOf b delay (record { start = s; end = f })
-  stops f t h ended same it ok =
-      let within : k ≤ 65 = omega arith in
-      stopped b delay ok e s f t
-      (starts-are (b .link) links parts delay e k before within s began b refl (links-are ok) (parts-are ok) ok)
-      (ends-are (b .link) links parts delay e k before within s began f ended b refl (links-are ok) (parts-are ok) ok)
-      same it
+  pub no-places : (t : Bool) → Decides t (InPlaces link l) → not t ≡ true → (r : Schedule) → LooplessBy link links parts →
+      TimesOf (graphOf link links parts) delay r
+  no-places t test fails r ok = absurd (true-false t (test .no places) (not-true t fails))
+    where
+      places : InPlaces link l
+      places = record {
+        from-in = λ k h. omega (arith, ok .from-in k (omega (arith, links-are ok)), ok .parts-to);
+        to-in = λ k h. omega (arith, ok .to-in k (omega (arith, links-are ok)), ok .parts-to);
+      }
 
-  pub settles : k ≤ 65 → 65 ≤ k → Timeable b delay → TimesOf b delay (record { start = s; end = e })
-  settles h l ok =
-      settled b delay ok e s k (before .is b refl (links-are ok) (parts-are ok) ok) h l
-      (starts-are (b .link) links parts delay e k before h s began b refl (links-are ok) (parts-are ok) ok)
+  pub guess-stands : (e s f : List Ticks) (t : Bool) → s ≡ startsOf link l e → f ≡ endsOf s delay n → Same f e t → t ≡ true →
+      LooplessBy link links parts → TimesOf (graphOf link links parts) delay (record { start = s; end = f })
+  guess-stands e s f t starts ends same it ok =
+      still-times link links parts ok delay _
+      (round-still link links parts delay e s f t (rw (links-are ok) at starts) (rw (parts-are ok) at ends) same it ok)
+
+  pub by-rounds : (r : Schedule) → (LooplessBy link l n → Still link l n delay r) → LooplessBy link links parts →
+      TimesOf (graphOf link links parts) delay r
+  by-rounds r still ok =
+      still-times link links parts ok delay r ((rw (links-are ok, parts-are ok) at still) ok)

@@ -1,71 +1,64 @@
-// When parts start and end: in rounds, each from the ends of the round before, until a round changes nothing.
-// Of a board that is not well formed nothing is promised but that the calls end: counts are cut to the places there are, links are looked at first,
-// and sums stay within their type.
+// When parts start and end. Ends are guessed first, raised in place link by link; a round that changes nothing shows that they are right. Where it
+// changes something they come in rounds from nothing, each from the ends of the round before, until a round changes nothing.
+// Of links with a loop nothing is promised but that the calls end: counts are cut to the places there are, links are looked at first, and sums stay
+// within their type.
+use base::lesser;
 use board::Board;
 use board::Link;
 use curve::Ticks;
+use curve::no_ticks;
 ghost use mathlib.Core.Path.{_≡_};
-ghost use Prim.Native.Nat.{max, min, _≤_};
-ghost use Rattle.board.specs.Board.{WellFormed};
+ghost use Prim.Native.Nat.{_≤_};
+ghost use Rattle.board.specs.Board.{view, WellFormed};
 ghost use Rattle.board.specs.Tests.{Decides};
-ghost use Rattle.times.specs.Times.{table, fastestsOf, slowestsOf, wireOf, startsOf, endsOf, InPlaces, Joined, Summed, Same, Timeable, TimesOf};
+ghost use Rattle.times.specs.Times.{fastestsOf, slowestsOf, wireOf, graphOf, TimesOf, Loopless, LooplessBy};
+ghost use Rattle.times.specs.Rounds.{startsOf, endsOf, Still, InPlaces, Same};
 
 // The start and the end of each part; places without a part hold 0.
 pub struct Schedule {
-    pub start: [u32; 64],
-    pub end: [u32; 64],
+    pub start: [Ticks; 64],
+    pub end: [Ticks; 64],
+}
+
+// Ends to be tried, and whether the last link that raised one came too late for the links before it.
+struct Guess {
+    ends: [Ticks; 64],
+    late: bool,
 }
 
 // The ticks that a link takes: none.
-pub fn wire(l: Link) -> u32
-    ensures { λ r. ⌜ r ≡ wireOf l ⌝ }
+pub fn wire(l: Link) -> Ticks
+    ensures { λ r. ⌜ r .0 ≡ wireOf l ⌝ }
 {
-    0
-}
-
-fn larger(a: u32, b: u32) -> u32
-    ensures { λ r. ⌜ r ≡ max a b ⌝ }
-{
-    if a < b { b } else { a }
-}
-
-fn lesser(a: usize, b: usize) -> usize
-    ensures { λ r. ⌜ r ≡ min a b ⌝ }
-{
-    if a < b { a } else { b }
-}
-
-fn zeros() -> [u32; 64]
-    ensures { λ r. ⌜ r ≡ table 64 (λ p. 0) ⌝ }
-{
-    [0u32; 64]
+    Ticks(0)
 }
 
 // Each part's delay at its fastest.
-pub fn fastest_delays(b: Board) -> [u32; 64]
+pub fn fastest_delays(b: Board) -> [Ticks; 64]
     ensures { λ r. ⌜ r ≡ fastestsOf b ⌝ }
 {
     let n = lesser(b.parts, 64);
-    let mut d = zeros();
+    let mut d = no_ticks();
     let mut k: usize = 0;
     while k < n {
-        d[k] = b.curve[k].fastest.0;
+        let c = b.curve[k];
+        let fastest = c.fastest;
+        d[k] = fastest;
         k = k + 1;
     }
     d
 }
 
 // Each part's delay at its slowest.
-pub fn slowest_delays(b: Board) -> [u32; 64]
+pub fn slowest_delays(b: Board) -> [Ticks; 64]
     ensures { λ r. ⌜ (WellFormed b → r ≡ slowestsOf b) ⌝ }
 {
     let n = lesser(b.parts, 64);
-    let mut d = zeros();
+    let mut d = no_ticks();
     let mut k: usize = 0;
     while k < n {
         let c = b.curve[k];
-        let slowest = c.slowest();
-        d[k] = slowest.0;
+        d[k] = c.slowest();
         k = k + 1;
     }
     d
@@ -91,45 +84,44 @@ fn in_places(link: [Link; 256], n: usize) -> bool
 }
 
 // Each part's start where parts end at `e`: the greatest arrival by the first `n` links, or 0.
-fn starts(link: [Link; 256], n: usize, e: [u32; 64]) -> [u32; 64]
+fn starts(link: [Link; 256], n: usize, e: [Ticks; 64]) -> [Ticks; 64]
     requires { ⌜ (n ≤ 256) × InPlaces link n ⌝ }
-    ensures { λ r. ⌜ (Joined link n e → r ≡ startsOf link n e) ⌝ }
+    ensures { λ r. ⌜ r ≡ startsOf link n e ⌝ }
 {
-    let mut s = zeros();
+    let mut s = no_ticks();
     let mut k: usize = 0;
     while k < n {
         let l = link[k];
         let f = l.from;
         let t = l.to;
-        let arrival = Ticks(e[f]).plus(Ticks(wire(l)));
-        s[t] = larger(s[t], arrival.0);
+        let arrival = e[f].plus(wire(l));
+        s[t] = s[t].later(arrival);
         k = k + 1;
     }
     s
 }
 
 // Each part's end: its start plus its delay.
-fn ends(s: [u32; 64], delay: [u32; 64], n: usize) -> [u32; 64]
+fn ends(s: [Ticks; 64], delay: [Ticks; 64], n: usize) -> [Ticks; 64]
     requires { ⌜ n ≤ 64 ⌝ }
-    ensures { λ r. ⌜ (Summed s delay n → r ≡ endsOf s delay n) ⌝ }
+    ensures { λ r. ⌜ r ≡ endsOf s delay n ⌝ }
 {
-    let mut e = zeros();
+    let mut e = no_ticks();
     let mut k: usize = 0;
     while k < n {
-        let end = Ticks(s[k]).plus(Ticks(delay[k]));
-        e[k] = end.0;
+        e[k] = s[k].plus(delay[k]);
         k = k + 1;
     }
     e
 }
 
 // Whether a round changed nothing.
-fn same(a: [u32; 64], b: [u32; 64]) -> bool
+fn same(a: [Ticks; 64], b: [Ticks; 64]) -> bool
     ensures { λ r. ⌜ Same a b r ⌝ }
 {
     let mut k: usize = 0;
     while k < 64 {
-        if a[k] != b[k] {
+        if a[k].0 != b[k].0 {
             return false;
         }
         k = k + 1;
@@ -137,17 +129,95 @@ fn same(a: [u32; 64], b: [u32; 64]) -> bool
     true
 }
 
-// The starts and ends of given delays. A board without a loop is settled after 65 rounds at most, mostly far sooner.
-pub fn times_of(b: Board, delay: [u32; 64]) -> Schedule
-    ensures { λ r. ⌜ (Timeable b delay → TimesOf b delay r) ⌝ }
-{
-    let link = b.link;
-    let links = lesser(b.links, 256);
-    let parts = lesser(b.parts, 64);
-    let mut e = zeros();
-    if !in_places(link, links) {
-        return Schedule { start: e, end: e };
+// ---- a guess, of which nothing is said
+// Whether an end was raised by a link that leads back: `low` below `high`.
+fn too_late(before: Ticks, after: Ticks, low: usize, high: usize) -> bool {
+    if after.0 <= before.0 {
+        return false;
     }
+    low < high
+}
+
+fn either(one: bool, other: bool) -> bool {
+    if one { true } else { other }
+}
+
+// The links from first to last: links ascend by their first part, so only one that leads downward can raise too late.
+fn forth(link: [Link; 256], n: usize, delay: [Ticks; 64], e: [Ticks; 64]) -> Guess
+    requires { ⌜ n ≤ 256 ⌝ }
+{
+    let mut ends = e;
+    let mut late = false;
+    let mut k: usize = 0;
+    while k < n {
+        let l = link[k];
+        let t = l.to % 64;
+        let arrival = ends[l.from % 64].plus(wire(l));
+        let before = ends[t];
+        let after = before.later(arrival.plus(delay[t]));
+        ends[t] = after;
+        late = either(late, too_late(before, after, l.to, l.from));
+        k = k + 1;
+    }
+    Guess {
+        ends: ends,
+        late: late,
+    }
+}
+
+// The links from last to first: only one that leads upward can raise too late.
+fn back(link: [Link; 256], n: usize, delay: [Ticks; 64], e: [Ticks; 64]) -> Guess
+    requires { ⌜ n ≤ 256 ⌝ }
+{
+    let mut ends = e;
+    let mut late = false;
+    let mut k: usize = n;
+    while 0 < k {
+        k = k - 1;
+        let l = link[k];
+        let t = l.to % 64;
+        let arrival = ends[l.from % 64].plus(wire(l));
+        let before = ends[t];
+        let after = before.later(arrival.plus(delay[t]));
+        ends[t] = after;
+        late = either(late, too_late(before, after, l.from, l.to));
+    }
+    Guess {
+        ends: ends,
+        late: late,
+    }
+}
+
+// Ends that are mostly right.
+fn guessed(link: [Link; 256], n: usize, delay: [Ticks; 64]) -> [Ticks; 64]
+    requires { ⌜ n ≤ 256 ⌝ }
+{
+    let mut e = delay;
+    let mut k: usize = 0;
+    while k < 32 {
+        let there = forth(link, n, delay, e);
+        e = there.ends;
+        if !there.late {
+            return e;
+        }
+        let again = back(link, n, delay, e);
+        e = again.ends;
+        if !again.late {
+            return e;
+        }
+        k = k + 1;
+    }
+    e
+}
+
+// ---- the starts and ends of given delays
+// In rounds from nothing. Links without a loop are settled after 65 rounds at most.
+fn in_rounds(link: [Link; 256], links: usize, parts: usize, delay: [Ticks; 64]) -> Schedule
+    requires { ⌜ (links ≤ 256) × InPlaces link links ⌝ }
+    requires { ⌜ parts ≤ 64 ⌝ }
+    ensures { λ r. ⌜ (LooplessBy link links parts → Still link links parts delay r) ⌝ }
+{
+    let mut e = no_ticks();
     let mut k: usize = 0;
     while k < 65 {
         let s = starts(link, links, e);
@@ -160,4 +230,34 @@ pub fn times_of(b: Board, delay: [u32; 64]) -> Schedule
     }
     let s = starts(link, links, e);
     Schedule { start: s, end: e }
+}
+
+// By the first `links` links: a guess that one round leaves as it is, or else in rounds.
+pub fn times_by(link: [Link; 256], links: usize, parts: usize, delay: [Ticks; 64]) -> Schedule
+    ensures { λ r. ⌜ (LooplessBy link links parts → TimesOf (graphOf link links parts) delay r) ⌝ }
+{
+    let l = lesser(links, 256);
+    let n = lesser(parts, 64);
+    if !in_places(link, l) {
+        let none = no_ticks();
+        return Schedule {
+            start: none,
+            end: none,
+        };
+    }
+    let e = guessed(link, l, delay);
+    let s = starts(link, l, e);
+    let f = ends(s, delay, n);
+    if same(f, e) {
+        return Schedule { start: s, end: f };
+    }
+    in_rounds(link, l, n, delay)
+}
+
+// Those of a board.
+pub fn times_of(b: Board, delay: [Ticks; 64]) -> Schedule
+    ensures { λ r. ⌜ (Loopless b → TimesOf (view b) delay r) ⌝ }
+{
+    let link = b.link;
+    times_by(link, b.links, b.parts, delay)
 }

@@ -1,7 +1,8 @@
 -- `times::wire` meets its contract.
 -- Assumes nothing.
-use Rattle.times.specs.Times.{wireOf}
 use mathlib.Core.Path.{refl}
+use Rattle.times.specs.Times.{wireOf}
+use borrow.Author.Needs.{needs}
 use Rattle.times.proofs.wire.Statement.{statement}
 use Rattle.times.proofs.wire.Tie as tie
 use Rattle.times.proofs.wire.Reads as reads
