@@ -15,6 +15,7 @@ use Rattle.theory.specs.Budget.{Held}
 use Rattle.theory.proofs.Alike.{Alike}
 use Rattle.board.specs.declared.Board.{Board}
 use Rattle.board.specs.Board.{WellFormed, view, usable}
+use Rattle.board.proofs.UsableLaws.{usable-to}
 use Rattle.board.specs.Tests.{Decides}
 use Rattle.board.proofs.Lawful.{lawful}
 use Rattle.cone.proofs.Loops.{loop-free-ranked, ranked-loop-free}
@@ -162,8 +163,7 @@ module _ (b : Board) (arcs : ℕ) (tail head base lengths savings : List ℕ) (d
   M = netOf arcs tail head base lengths savings
 
   pub due-small : due ≤ 4095
-  unfolding usable
-  due-small = omega (arith, ok .due-is, ok .can .formed .deadline-to)
+  due-small = omega (arith, ok .due-is, usable-to b (ok .can .formed))
 
   pub laid-wide : Wide arcs tail head base lengths savings due
   laid-wide = rw (ok .due-is) (wide b (ok .can) arcs tail head base lengths savings (ok .network))
