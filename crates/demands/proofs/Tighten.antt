@@ -17,7 +17,7 @@ use Rattle.curve.specs.declared.Curve.{Curve}
 use Rattle.board.specs.declared.Link.{Link}
 use Rattle.board.specs.declared.Board.{Board}
 use Rattle.board.specs.Board.{noCurve, noLink, curveAt, linkAt, usable, view, Linked, WellFormed}
-use Rattle.board.specs.Path.{Path, one, more, LoopFree}
+use Rattle.board.specs.Leads.{Leads, one, more, LoopFree}
 use Rattle.board.proofs.Lawful.{lawful}
 use Rattle.edits.specs.Changes.{Ends, Addable, LinksOnly, LinkAdded, LinkRemoved, CurveChanged, DeadlineChanged}
 use Rattle.orders.specs.declared.Change.{Change}
@@ -89,7 +89,7 @@ module _ (b b′ : Board) (k : Curve) where
   }
 
 module _ (b b′ : Board) (tight : TighterBoard b b′) where
-  path-stays : {p q : ℕ} → Path b p q → Path b′ p q
+  path-stays : {p q : ℕ} → Leads b p q → Leads b′ p q
   path-stays (one l) = one (tight .linked _ _ l)
   path-stays (more l rest) = more (tight .linked _ _ l) (path-stays rest)
 

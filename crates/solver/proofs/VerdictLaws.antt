@@ -13,7 +13,7 @@ use Rattle.theory.specs.Budget.{Budget}
 use Rattle.theory.proofs.TimedLaws.{timed-once, possible}
 use Rattle.board.specs.declared.Board.{Board}
 use Rattle.board.specs.Board.{usable, view, WellFormed}
-use Rattle.board.specs.Path.{LoopFree}
+use Rattle.board.specs.Leads.{LoopFree}
 use Rattle.cone.specs.declared.Loop.{Loop}
 use Rattle.cone.specs.declared.Loop.the-variants.{At, Free}
 use Rattle.cone.specs.Cone.{LowestOnLoop}
