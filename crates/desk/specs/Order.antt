@@ -7,7 +7,7 @@ use Prim.Native.Nat.{ℕ, _+_, _≤_}
 use lib.Dec.{ltb, leb, eqb}
 use Rattle.base.specs.Pick.{pick}
 use Rattle.refusal.specs.declared.Why.{Why}
-use Rattle.refusal.specs.Refusal.{no}
+use Rattle.refusal.specs.Refusal.{refusal}
 use Rattle.refusal.specs.declared.Answer.{Answer}
 use Rattle.refusal.specs.declared.Answer.the-variants.{Done, Refused}
 use Rattle.curve.specs.declared.Curve.{Curve}
@@ -37,7 +37,7 @@ changedOf b o = changeMade b (o .change) (o .curve)
 
 -- 17: "no such part on the board", place: "the part asked for"; else what comes next
 abbrev pub withPart : Board → ℕ → Answer → Answer
-withPart b p next = pick (ltb p (b .parts)) next (no 17 p)
+withPart b p next = pick (ltb p (b .parts)) next (refusal 17 p)
 
 -- "17 (from before to), then for a link to add 7, 13, 15, 9; for one to remove 14": all but 9, which is judged with 10
 abbrev pub placeTried : Board → Change → Answer
@@ -46,18 +46,18 @@ placeTried b (AddLink from to) =
     withPart b from
     (withPart b to
     (pick (eqb from to)
-    (no 7 0)
-    (pick (hasLinkOf b (linkOf from to)) (no 13 0) (pick (leb 256 (b .links)) (no 15 0) Done))))
+    (refusal 7 0)
+    (pick (hasLinkOf b (linkOf from to)) (refusal 13 0) (pick (leb 256 (b .links)) (refusal 15 0) Done))))
 placeTried b (RemoveLink from to) =
-    withPart b from (withPart b to (pick (hasLinkOf b (linkOf from to)) Done (no 14 0)))
+    withPart b from (withPart b to (pick (hasLinkOf b (linkOf from to)) Done (refusal 14 0)))
 placeTried b (NewCurve part) = withPart b part Done
 
 -- "and then tried: 11, 18, 17 .."; 18: "tally's sum is 65,535 or more"
 unfoldable pub triedOf : Desk → Tally → Order → Answer
 triedOf d t o =
     pick (d .held)
-    (pick (leb 65535 (t .taken + t .refused)) (no 18 0) (placeTried (d .board) (o .change)))
-    (no 11 0)
+    (pick (leb 65535 (t .taken + t .refused)) (refusal 18 0) (placeTried (d .board) (o .change)))
+    (refusal 11 0)
 
 -- "the tally counts an order refused by 7, 9, 10, 13, 14, 15 or 17"
 abbrev pub counts : Why → Bool

@@ -1,4 +1,4 @@
--- The table of refusals: their numbers. A refusal's place stands beside it in each answer. Every promise names a refusal by its number (`by`, `no`),
+-- The table of refusals: their numbers. A refusal's place stands beside it in each answer. Every promise names a refusal by its number (`by`, `refusal`),
 -- so that it can be held side by side with 01's table.
 -- Assumes nothing.
 use mathlib.Core.Bool.{Bool, true, false}
@@ -86,8 +86,8 @@ abbrev pub by : ℕ → Why
 by number = getD rows (number - 1) NoLabel
 
 -- "Each refusal gives its number and a place."
-abbrev pub no : ℕ → ℕ → Answer
-no number place = Refused (by number) place
+abbrev pub refusal : ℕ → ℕ → Answer
+refusal number place = Refused (by number) place
 
 -- a number is one of these
 unfoldable pub among : ℕ → List ℕ → Bool
