@@ -2,12 +2,12 @@
 -- Assumes nothing.
 use mathlib.Core.Path.{_≡_}
 use mathlib.Core.Bool.{Bool, true, false}
-use mathlib.Core.List.{List, []}
+use mathlib.Core.List.{List, [], _∷_}
 use Prim.Native.Nat.{ℕ, _+_, _≤_}
 use lib.Dec.{ltb, leb, eqb}
 use Rattle.base.specs.Pick.{pick}
 use Rattle.refusal.specs.declared.Why.{Why}
-use Rattle.refusal.specs.Refusal.{refusal}
+use Rattle.refusal.specs.Refusal.{numberOf, refusal, among}
 use Rattle.refusal.specs.declared.Answer.{Answer}
 use Rattle.refusal.specs.declared.Answer.the-variants.{Done, Refused}
 use Rattle.curve.specs.declared.Curve.{Curve}
@@ -22,8 +22,8 @@ use Rattle.orders.specs.Order.{orderOf}
 use Rattle.desk.specs.declared.Tally.{Tally}
 use Rattle.desk.specs.declared.Desk.{Desk}
 use Rattle.desk.specs.declared.Ordered.{Ordered}
-use Rattle.solver.specs.Verdict.{Verdict}
-use Rattle.desk.specs.Held.{Holding, Standing}
+use Rattle.desk.specs.Held.{Standing}
+use Rattle.desk.specs.Judged.{BoardJudged}
 
 -- "exactly its one place changes": the board with the change made
 abbrev pub changeMade : Board → Change → Curve → Board
@@ -60,27 +60,11 @@ triedOf d t o =
     (refusal 11 0)
 
 -- "the tally counts an order refused by 7, 9, 10, 13, 14, 15 or 17"
+abbrev pub counted : ℕ → Bool
+counted number = among number (7 ∷ 9 ∷ 10 ∷ 13 ∷ 14 ∷ 15 ∷ 17 ∷ [])
+
 abbrev pub counts : Why → Bool
-counts CutShort = false
-counts NotShortest = false
-counts WrongVersion = false
-counts OutOfRange = false
-counts SavingNotBelow = false
-counts PowerBelowSavings = false
-counts LinkNotAbove = true
-counts BytesAfter = false
-counts Looped = true
-counts TooSlow = true
-counts NoBoard = false
-counts UnknownKind = false
-counts LinkThere = true
-counts LinkMissing = true
-counts LinksFull = true
-counts BufferShort = false
-counts NoPart = true
-counts TallyFull = false
-counts OffCurve = false
-counts NoLabel = false
+counts why = counted (numberOf why)
 
 abbrev pub oneTaken : Tally → Tally
 oneTaken t = record { taken = t .taken + 1; refused = t .refused }
@@ -90,6 +74,10 @@ oneRefused t = record { taken = t .taken; refused = t .refused + 1 }
 
 unfoldable pub refusedTally : Why → Tally → Tally
 refusedTally why t = pick (counts why) (oneRefused t) t
+
+abbrev pub tallyOrdered : Answer → Tally → Tally
+tallyOrdered Done t = oneTaken t
+tallyOrdered (Refused why place) t = refusedTally why t
 
 -- a refused order changes the tally at most
 abbrev pub orderRefused : Why → ℕ → ℕ → List ℕ → Desk → Tally → Ordered
@@ -102,13 +90,10 @@ orderRefused why place took path d t = record {
 }
 
 -- the order was read, and no refusal but 9 and 10 is left: what the board as it would be comes to
-pub data OrderJudged (b : Board) (d : Desk) (t : Tally) (took : ℕ) (r : Ordered) : Type 0 where
-  refused :
-      {why : Why} {place : ℕ} {path : List ℕ} → Verdict b (Refused why place) path → r ≡ orderRefused why place took path d t →
-      OrderJudged b d t took r
-  made :
-      Verdict b Done [] → r .answer ≡ Done → r .took ≡ took → r .path ≡ trailOf [] → r .desk .board ≡ b → Holding (r .desk) →
-      r .tally ≡ oneTaken t → OrderJudged b d t took r
+pub record OrderJudged (b : Board) (d : Desk) (t : Tally) (took : ℕ) (r : Ordered) : Type 0 where
+  pub judged : BoardJudged b d (r .answer) (r .path) (r .desk)
+  pub took-is : r .took ≡ took
+  pub tally : r .tally ≡ tallyOrdered (r .answer) t
 
 abbrev pub OrderTried : Answer → Desk → Tally → Order → ℕ → Ordered → Type 0
 OrderTried (Refused why place) d t o took r = r ≡ orderRefused why place took [] d t
