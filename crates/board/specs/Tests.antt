@@ -7,6 +7,7 @@ use Prim.Native.Nat.{ℕ, _-_}
 use lib.Dec.{ltb, leb, eqb}
 use lib.ListN.{replicate}
 use Rattle.base.specs.Pick.{pick}
+pub use Rattle.base.specs.Decides.{Decides}
 use Rattle.curve.specs.Tests.{every, goodb}
 use Rattle.curve.specs.declared.Ticks.{Ticks}
 use Rattle.curve.specs.declared.Curve.{Curve}
@@ -14,11 +15,6 @@ use Rattle.board.specs.declared.Rule.the-variants.{A}
 use Rattle.board.specs.declared.Link.{Link}
 use Rattle.board.specs.declared.Board.{Board}
 use Rattle.board.specs.Board.{noLink, blankCurve, linkAt, curveAt}
-
--- a test says whether p holds
-pub record Decides (test : Bool) (p : Type 0) : Type 0 where
-  pub yes : test ≡ true → p
-  pub no : p → test ≡ true
 
 unfoldable pub blankLinks : List Link
 blankLinks = replicate 256 noLink

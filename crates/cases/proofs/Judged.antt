@@ -14,7 +14,7 @@ use Rattle.theory.specs.Budget as theory
 use Rattle.board.specs.declared.Rule.the-variants.{A}
 use Rattle.board.specs.declared.Board.{Board}
 use Rattle.board.specs.Board.{usable, view, WellFormed}
-use Rattle.board.specs.Path.{LoopFree}
+use Rattle.board.specs.Leads.{LoopFree}
 use Rattle.board.proofs.Lawful.{lawful}
 use Rattle.cone.proofs.Cones.{path-from}
 use Rattle.cone.proofs.Loops.{ranked-loop-free}

@@ -19,7 +19,7 @@ use Rattle.curve.specs.Tests.{every}
 use Rattle.board.specs.declared.Rule.the-variants.{A}
 use Rattle.board.specs.declared.Board.{Board}
 use Rattle.board.specs.Board.{usable, view, WellFormed, usableUnder, delayOf}
-use Rattle.board.specs.Path.{LoopFree}
+use Rattle.board.specs.Leads.{LoopFree}
 use Rattle.cone.specs.Sweeps.{upstreamOf, downstreamOf}
 use Rattle.cone.proofs.Examples.{upstream-K, downstream-K}
 use Rattle.cone.proofs.Loops.{loop-free-ranked, ranked-loop-free}

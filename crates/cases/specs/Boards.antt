@@ -13,7 +13,7 @@ use Rattle.board.specs.Board.{plainLink, noLink, blankCurve}
 
 -- "runs as length at saving"
 abbrev pub run : ℕ → ℕ → Run
-run length saving = record { length = record { 0 = length }; saving = record { 0 = saving } }
+run ticks saving = record { length = record { 0 = ticks }; saving = record { 0 = saving } }
 
 -- "fastest; power; runs"; places past the last run are blank
 unfoldable pub curve : ℕ → ℕ → List Run → Curve

@@ -19,7 +19,7 @@ use Rattle.board.specs.declared.Board.{Board}
 use Rattle.board.specs.Board.{plainLink, noLink, curveAt, linkAt, delayOf, usable, view, Linked, Has, WellFormed}
 use Rattle.board.proofs.UsableLaws.{usable-lower}
 use Rattle.board.proofs.SameBoard.{linked-whole}
-use Rattle.board.specs.Path.{Path, one, more, LoopFree}
+use Rattle.board.specs.Leads.{Leads, one, more, LoopFree}
 use Rattle.board.proofs.Lawful.{lawful}
 use Rattle.edits.specs.Changes.{Addable, LinksOnly, LinkAdded, LinkRemoved, CurveChanged, DeadlineChanged}
 use Rattle.orders.specs.declared.Change.{Change}
@@ -111,7 +111,7 @@ module _ (b b′ : Board) (k : Curve) where
   }
 
 module _ (b b′ : Board) (tight : TighterBoard b b′) where
-  path-stays : {p q : ℕ} → Path b p q → Path b′ p q
+  path-stays : {p q : ℕ} → Leads b p q → Leads b′ p q
   path-stays (one l) = one (linked-by b b′ (tight .longer) _ _ l)
   path-stays (more l rest) = more (linked-by b b′ (tight .longer) _ _ l) (path-stays rest)
 

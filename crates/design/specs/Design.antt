@@ -8,7 +8,7 @@ use mathlib.Core.List.{List, _++_}
 use lib.Dec.{ltb, eqb}
 use lib.ListN.{length, getD, set}
 use Rattle.base.specs.Pick.{pick}
-use Rattle.refusal.specs.declared.Why.the-variants.{WrongVersion, LinkNotAbove, BytesAfter}
+use Rattle.refusal.specs.Refusal.{by}
 use Rattle.curve.specs.declared.Curve.{Curve}
 use Rattle.groups.specs.Number.{numberAt, encode}
 use Rattle.fields.specs.Parse.{Parse, got, stop, and-then, repeat, number, fieldAt}
@@ -23,7 +23,7 @@ use Rattle.design.specs.declared.Head.{Head}
 
 -- "version not 1", place 0
 unfoldable pub versionAt : List ℕ → Parse ℕ
-versionAt s = and-then (number (numberAt s 0)) (λ v next. pick (eqb v 1) (got v next) (stop WrongVersion 0))
+versionAt s = and-then (number (numberAt s 0)) (λ v next. pick (eqb v 1) (got v next) (stop (by 3) 0))
 
 -- what is read next is put in place i of a row
 unfoldable pub inPlace : {A : Type 0} → (ℕ → List A → ℕ → Parse A) → ℕ → List A → ℕ → Parse (List A)
@@ -46,7 +46,7 @@ unfoldable pub linkFrom : List ℕ → ℕ → ℕ → Link → ℕ → Parse Li
 linkFrom s parts l before at =
     and-then (fieldAt s 0 (parts - 1) at) (λ from at₁.
     and-then (fieldAt s 0 (parts - 1) at₁) (λ to at₂.
-    pick (above l before (plainLink from to)) (got (plainLink from to) at₂) (stop LinkNotAbove at)))
+    pick (above l before (plainLink from to)) (got (plainLink from to) at₂) (stop (by 7) at)))
 
 -- a link after those in the row before it
 abbrev pub linkIn : List ℕ → ℕ → ℕ → List Link → ℕ → Parse Link
@@ -58,7 +58,7 @@ linksFrom s parts links at = repeat (inPlace (linkIn s parts)) blankLinks at lin
 
 -- "bytes after the design", place: "first of them"
 unfoldable pub wholeAt : List ℕ → Board → ℕ → Parse Board
-wholeAt s b at = pick (ltb at (length s)) (stop BytesAfter at) (got b at)
+wholeAt s b at = pick (ltb at (length s)) (stop (by 8) at) (got b at)
 
 abbrev pub boardOf : Head → List Curve → ℕ → List Link → Board
 boardOf head curve links link = record {

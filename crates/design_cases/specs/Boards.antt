@@ -13,7 +13,7 @@ use Rattle.board.specs.Board.{plainLink, noLink, blankCurve}
 
 -- a run as 01 writes it: length at saving
 abbrev pub run : ℕ → ℕ → Run
-run length saving = record { length = record { 0 = length }; saving = record { 0 = saving } }
+run ticks saving = record { length = record { 0 = ticks }; saving = record { 0 = saving } }
 
 abbrev pub link : ℕ → ℕ → Link
 link from to = plainLink from to

@@ -19,7 +19,7 @@ use Rattle.slow.specs.Slow.{First, LastPart, StepBack, first, next, Loop
 use Rattle.slow.proofs.SlowLaws.{slow-once}
 
 abbrev run : ℕ → ℕ → Run
-run length saving = record { length = record { 0 = length }; saving = record { 0 = saving } }
+run ticks saving = record { length = record { 0 = ticks }; saving = record { 0 = saving } }
 
 abbrev curve : ℕ → ℕ → ℕ → List Run → Curve
 curve fastest power count runs = record { fastest = record { 0 = fastest }; power = record { 0 = power }; count = count; runs = runs }
@@ -100,7 +100,18 @@ first-0 = record { none = below-4 _ (λ q. omega arith) (λ q. omega arith) (λ 
 
 shownK : SlowOf boardK (shown 10 (0 ∷ 3 ∷ 1 ∷ 2 ∷ []))
 unfolding boardK usable usableUnder
-shownK = exceeded fastestK lastK (omega arith) (next step-2 (next step-1 (next step-3 (first first-0)))) refl
+shownK =
+    exceeded
+    (record {
+      end = endsK;
+      part = 2;
+      ends = fastestK;
+      last = lastK;
+      walked = next step-2 (next step-1 (next step-3 (first first-0)));
+      place = refl;
+      over = omega arith;
+    })
+    refl
 
 pub case-9 : Loopless boardK → (r : ShownPath) → SlowOf boardK r → r ≡ shown 10 (0 ∷ 3 ∷ 1 ∷ 2 ∷ [])
 case-9 ok r s = slow-once boardK ok r (shown 10 (0 ∷ 3 ∷ 1 ∷ 2 ∷ [])) s shownK
@@ -123,9 +134,17 @@ only-0 P a (suc p) h = absurd (omega arith)
 shown1 : SlowOf board1 (shown 5 (0 ∷ []))
 unfolding board1 usable usableUnder view arrive greatest
 shown1 =
-    exceeded {e = cells (5 ∷ [])} {p = 0} (record { start = λ p. 0; timed = record { starts = only-0 _ refl; ends = only-0 _ refl } })
-    (record { here = omega arith; greatest = only-0 _ (omega arith); lowest = only-0 _ (λ q. omega arith) }) (omega arith)
-    (first {p = 0} (record { none = λ l h q. omega arith })) refl
+    exceeded
+    (record {
+      end = cells (5 ∷ []);
+      part = 0;
+      ends = record { start = λ p. 0; timed = record { starts = only-0 _ refl; ends = only-0 _ refl } };
+      last = record { here = omega arith; greatest = only-0 _ (omega arith); lowest = only-0 _ (λ q. omega arith) };
+      walked = first (record { none = λ l h q. omega arith });
+      place = refl;
+      over = omega arith;
+    })
+    refl
 
 pub case-7 : Loopless board1 → (r : ShownPath) → SlowOf board1 r → r ≡ shown 5 (0 ∷ [])
 case-7 ok r s = slow-once board1 ok r (shown 5 (0 ∷ [])) s shown1
