@@ -53,13 +53,13 @@ unfolding fileD every-byte pick
 bytes-D = all-bytes fileD refl
 
 pub K-written : fileOf K ≡ fileK
-K-written = read-written fileK K 34 bytes-K K-read
+K-written = read-written A fileK K 34 bytes-K K-read
 
 pub D-written : fileOf D ≡ fileD
-D-written = read-written fileD D 23 bytes-D D-read
+D-written = read-written A fileD D 23 bytes-D D-read
 
 pub D-read-back : designOf A (fileOf D) ≡ got D (length (fileOf D))
-D-read-back = written-read D (design-well-formed fileD D 23 D-read)
+D-read-back = written-read D (design-well-formed A fileD D 23 D-read)
 
 -- ---- a fault each, with its place
 pub record Faults : Type 0 where
