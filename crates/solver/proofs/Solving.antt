@@ -15,6 +15,7 @@ use Rattle.theory.specs.Budget.{Held}
 use Rattle.theory.proofs.Alike.{Alike}
 use Rattle.board.specs.declared.Board.{Board}
 use Rattle.board.specs.Board.{WellFormed, view, usable}
+use Rattle.board.proofs.UsableLaws.{usable-to}
 use Rattle.board.specs.Tests.{Decides}
 use Rattle.board.proofs.Lawful.{lawful}
 use Rattle.cone.proofs.Loops.{loop-free-ranked, ranked-loop-free}
@@ -63,18 +64,19 @@ never e = absurd (let z : _≡_ {A = ℕ} 0 1 = cc in omega arith)
 
 solvable-fine : (b : Board) → Solvable b → Verdict b Done []
 solvable-fine b can =
-    fine (ranked-loop-free b 65 (can .ranked)) (record { start = can .start; timed = can .fastest }) (can .in-time)
+    fine (ranked-loop-free b 65 (can .ranked))
+    (record { end = can .end; ends = record { start = can .start; timed = can .fastest }; within = can .in-time })
 
 verdict-solvable : (b : Board) → WellFormed b → {a : Answer} {path : List ℕ} → Verdict b a path → a ≡ Done → Solvable b
 verdict-solvable b w (looped x) e = never e
-verdict-solvable b w (slow free f last over walk) e = never e
-verdict-solvable b w (fine {e = ends} free f within) e = record {
+verdict-solvable b w (slow free x) e = never e
+verdict-solvable b w (fine free k) e = record {
   formed = w;
   ranked = loop-free-ranked b w free;
-  start = f .start;
-  end = ends;
-  fastest = f .timed;
-  in-time = within;
+  start = k .ends .start;
+  end = k .end;
+  fastest = k .ends .timed;
+  in-time = k .within;
 }
 
 module _ (b : Board) (j : Judged) (so : JudgedOf b j) where
@@ -162,8 +164,7 @@ module _ (b : Board) (arcs : ℕ) (tail head base lengths savings : List ℕ) (d
   M = netOf arcs tail head base lengths savings
 
   pub due-small : due ≤ 4095
-  unfolding usable
-  due-small = omega (arith, ok .due-is, ok .can .formed .deadline-to)
+  due-small = omega (arith, ok .due-is, usable-to b (ok .can .formed))
 
   pub laid-wide : Wide arcs tail head base lengths savings due
   laid-wide = rw (ok .due-is) (wide b (ok .can) arcs tail head base lengths savings (ok .network))

@@ -1,5 +1,6 @@
 // The solver: refusals 9 and 10 with the path shown, or the budget that is held, by a flow that shows why none is cheaper. The flow is found in a
-// network of arcs: advice is tried first, and the main loop from all parts at their slowest always finds one.
+// network of arcs: what the crate `advice` makes of what is known is tried first, and the main loop from all parts at their slowest always finds one.
+mod advising;
 mod crashing;
 mod deciding;
 mod finding;
@@ -42,6 +43,27 @@ pub struct Solved {
     pub work: Work,
 }
 
+// What may be known of a board before it is solved, any numbers at all: loads of its arcs, and times of the nodes, of parts' starts and ends, source
+// and sink. Where the sink has none, all parts at their slowest are begun from.
+pub struct Advice {
+    pub loads: [u32; 448],
+    pub times: [u32; 130],
+}
+
+// Nothing known.
+pub fn no_advice() -> Advice {
+    let times = [0u32; 130];
+    Advice {
+        loads: finding::no_loads(),
+        times,
+    }
+}
+
+// What the budget and the flow of a board advise for the board that it was changed to.
+pub fn advice_from(from: Board, held: Budget, flow: [u32; 448], to: Board) -> Advice {
+    advising::advice_from(from, held, flow, to)
+}
+
 // ---- the budget of times of nodes
 // The times of `n` nodes from node `first` on.
 fn nodes_from(t: &[u32; 130], first: usize, n: usize) -> [u32; 64]
@@ -79,7 +101,7 @@ fn solve_laid(
     lengths: &[u32; 256],
     savings: &[u32; 256],
     due: u32,
-    advice: [u32; 448],
+    advice: Advice,
 ) -> Solved
     requires { ⌜ Prepared b arcs (now tail) (now head) (now base) (now lengths) (now savings) due ⌝ }
     ensures { λ r. ⌜ Solves b r ⌝ }
@@ -99,7 +121,7 @@ fn solve_laid(
 }
 
 // The budget that is held, with its reason, on a board that is refused for nothing.
-fn solve_possible(b: Board, advice: [u32; 448]) -> Solved
+fn solve_possible(b: Board, advice: Advice) -> Solved
     requires { ⌜ Solvable b ⌝ }
     ensures { λ r. ⌜ Solves b r ⌝ }
 {
@@ -163,8 +185,8 @@ fn refused(why: Why, place: usize, path: Trail) -> Solved
     }
 }
 
-// Refusal 9 or 10 of a well-formed board, or the budget that is held.
-fn solve_formed(b: Board, advice: [u32; 448]) -> Solved
+// Refusal 9 or 10 of a well-formed board, or the budget that is held. The advice may be anything: good advice makes for quick work.
+pub fn solve_formed(b: Board, advice: Advice) -> Solved
     requires { ⌜ WellFormed b ⌝ }
     ensures { λ r. ⌜ Solves b r ⌝ }
 {
@@ -177,9 +199,9 @@ fn solve_formed(b: Board, advice: [u32; 448]) -> Solved
     }
 }
 
-// Refusals 9 and 10 with the path shown, or the budget that is held. The advice is any loads at all: a good guess spares the main loop, and a bad one
-// costs a look. Of a value that is not well formed only the end of the call is promised.
-pub fn solve(b: Board, advice: [u32; 448]) -> Solved
+// Refusals 9 and 10 with the path shown, or the budget that is held. The advice may be anything: good advice makes for quick work. Of a value that is
+// not well formed only the end of the call is promised.
+pub fn solve(b: Board, advice: Advice) -> Solved
     ensures { λ r. ⌜ (WellFormed b → Solves b r) ⌝ }
 {
     if !board::well_formed(b) {

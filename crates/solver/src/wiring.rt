@@ -50,7 +50,8 @@ fn lay_links(b: Board, tail: &mut [usize; 448], head: &mut [usize; 448], base: &
     let mut l: usize = 0;
     while l < links {
         let link = b.link[l];
-        put(tail, head, base, parts + l, 64 + link.from, link.to, 0);
+        let ticks = board::link_delay(link);
+        put(tail, head, base, parts + l, 64 + link.from, link.to, ticks);
         l = l + 1;
     }
 }

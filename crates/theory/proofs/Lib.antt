@@ -22,4 +22,3 @@ pub mod Existence
 pub mod Turning
 pub mod LatestLaws
 pub mod LatestEndsLaws
-pub mod TickWorth

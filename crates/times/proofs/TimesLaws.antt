@@ -15,10 +15,9 @@ use Rattle.curve.proofs.CurveLaws.{slowest-to}
 use Rattle.curve.proofs.RowLaws.{ticks-at, same-ticks}
 use Rattle.board.specs.declared.Board.{Board}
 use Rattle.board.specs.Board.{curveAt, linkAt, view, WellFormed}
-use Rattle.board.proofs.Lawful.{lawful}
+use Rattle.board.proofs.Lawful.{lawful, wire-to}
 use Rattle.times.specs.declared.Schedule.{Schedule}
-use Rattle.times.specs.Times.{fastestsOf, slowestAt, slowestsOf, wireOf, inTicks, graphOf, TimesOf, Loopless, LooplessBy}
-use Rattle.times.proofs.Loops.{wire-at}
+use Rattle.times.specs.Times.{fastestsOf, slowestAt, slowestsOf, inTicks, graphOf, TimesOf, Loopless, LooplessBy}
 
 -- ---- a board's own links
 pub board-loopless : (b : Board) → Loopless b → LooplessBy (b .link) (b .links) (b .parts)
@@ -34,7 +33,7 @@ board-loopless b ok = record {
 -- the return of `times_of`
 pub board-times : (b : Board) (delay : List Ticks) (r : Schedule) →
     (LooplessBy (b .link) (b .links) (b .parts) → TimesOf (graphOf (b .link) (b .links) (b .parts)) delay r) → Loopless b → TimesOf (view b) delay r
-unfolding graphOf view arrive wireOf
+unfolding graphOf view arrive
 board-times b delay r by ok =
     let t = by (board-loopless b ok) in
     record {
@@ -74,7 +73,7 @@ module _ (b : Board) (ok : Loopless b) where
         omega (
           arith,
           end-to i (linkAt b k .from) (ok .formed .from-in k m) (omega (arith, ok .ranked .rises k m, ap (ok .ranked .rank) q)),
-          wire-at b k,
+          wire-to b (ok .formed) k m,
         ))) in
         omega (arith, t .timed .ends p h, few p h)
 

@@ -13,14 +13,14 @@ use Rattle.theory.specs.Budget.{greatest}
 use Rattle.curve.specs.declared.Ticks.{Ticks}
 use Rattle.curve.specs.Rows.{ticksAt, ticksRow}
 use Rattle.board.specs.declared.Link.{Link}
-use Rattle.board.specs.Board.{noLink}
+use Rattle.board.specs.Board.{noLink, delayOf}
 use Rattle.times.specs.declared.Schedule.{Schedule}
-use Rattle.times.specs.Times.{wireOf, inTicks}
+use Rattle.times.specs.Times.{inTicks}
 
 -- the last arrival at part p by the first n links, where parts end at e
 unfoldable pub arrivalOf : List Link → List Ticks → ℕ → ℕ → ℕ
 arrivalOf link e n p =
-    greatest n (λ l. share (getD link l noLink .to) p (inTicks (ticksAt e (getD link l noLink .from) + wireOf (getD link l noLink))))
+    greatest n (λ l. share (getD link l noLink .to) p (inTicks (ticksAt e (getD link l noLink .from) + delayOf (getD link l noLink))))
 
 unfoldable pub startsOf : List Link → ℕ → List Ticks → List Ticks
 startsOf link n e = table 64 (λ p. record { 0 = arrivalOf link e n p })

@@ -10,13 +10,13 @@ use Rattle.kin.proofs.critical_rows.Statement.{statement}
 use Rattle.kin.proofs.critical_rows.Tie as tie
 
 abbrev Inv-loop : tie.InvT-loop
-Inv-loop start end b n t₀ k₀ t k = (k ≤ n) × (t ≡ rowsUpTo b start end k)
+Inv-loop held b n t₀ k₀ t k = (k ≤ n) × (t ≡ rowsUpTo b held k)
 
 abbrev μ-loop : tie.MeasureT-loop
-μ-loop start end b n t₀ k₀ t k = n - k
+μ-loop held b n t₀ k₀ t k = n - k
 
-capped-requires : tie.Need-capped-requires Inv-loop μ-loop
-capped-requires c κs = search needs
+lesser-requires : tie.Need-lesser-requires Inv-loop μ-loop
+lesser-requires c κs = search needs
 
 no-rows-requires : tie.Need-no-rows-requires Inv-loop μ-loop
 no-rows-requires c κs = search needs
@@ -54,7 +54,7 @@ critical-rows-spec =
     (tie.spec
     Inv-loop
     μ-loop
-    capped-requires
+    lesser-requires
     no-rows-requires
     loop-holds
     mul-l

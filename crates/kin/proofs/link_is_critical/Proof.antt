@@ -5,8 +5,8 @@ use borrow.Author.Needs.{needs}
 use Rattle.kin.proofs.link_is_critical.Statement.{statement}
 use Rattle.kin.proofs.link_is_critical.Tie as tie
 
-capped-requires : tie.Need-capped-requires
-capped-requires c κs = search needs
+lesser-requires : tie.Need-lesser-requires
+lesser-requires c κs = search needs
 
 returns : tie.Need-returns
 returns c = search (no-such-link)
@@ -27,7 +27,7 @@ pub link-is-critical-spec : {M : Type 1} → statement M
 link-is-critical-spec =
     tie.close
     (tie.spec
-    capped-requires
+    lesser-requires
     returns
     mul-critical
     element-copy-out-critical

@@ -1,7 +1,7 @@
 -- `slow::backs` meets its contract. The invariant: the steps back are those by the first k links.
 -- Assumes nothing.
 use Rattle.slow.proofs.Ways.{backs-none, backs-more, backs-done}
-use Rattle.times.specs.Times.{Joined}
+use Rattle.times.specs.Rounds.{InPlaces}
 use Rattle.slow.specs.Walk.{backsOf}
 use Prim.Native.Nat.{_≤_, _-_}
 use mathlib.Core.Path.{_≡_}
@@ -12,11 +12,10 @@ use Rattle.slow.proofs.backs.Reads as reads
 use Rattle.slow.proofs.backs.Lts as lts
 use Rattle.slow.proofs.all.Reads as all-reads
 use Rattle.slow.proofs.awaited.Reads as awaited-reads
-use Rattle.slow.proofs.lesser.Reads as lesser-reads
-use Rattle.times.proofs.wire.Reads as wire-reads
+use Rattle.board.proofs.link_delay.Reads as link-delay-reads
 
 abbrev Inv-loop : tie.InvT-loop
-Inv-loop n link s e back₀ k₀ back k = (k ≤ n) × (Joined link n e → back ≡ backsOf link s e k)
+Inv-loop n link s e back₀ k₀ back k = (k ≤ n) × (InPlaces link n → back ≡ backsOf link s e k)
 
 abbrev μ-loop : tie.MeasureT-loop
 μ-loop n link s e back₀ k₀ back k = n - k
@@ -45,8 +44,8 @@ mul-awaited c = search needs
 array-read-awaited : tie.Need-array-read-awaited Inv-loop μ-loop
 array-read-awaited c = search needs
 
-wire-requires : tie.Need-wire-requires Inv-loop μ-loop
-wire-requires c κs = search needs
+link-delay-requires : tie.Need-link-delay-requires Inv-loop μ-loop
+link-delay-requires c κs = search needs
 
 mul-awaited-2 : tie.Need-mul-awaited-2 Inv-loop μ-loop
 mul-awaited-2 c = search needs
@@ -92,7 +91,7 @@ backs-spec =
     array-read-lesser
     mul-awaited
     array-read-awaited
-    wire-requires
+    link-delay-requires
     mul-awaited-2
     array-read-awaited-2
     awaited-requires

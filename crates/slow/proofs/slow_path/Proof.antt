@@ -11,7 +11,6 @@ use Rattle.board.proofs.usable_deadline.Reads as usable-deadline-reads
 use Rattle.slow.proofs.all.Reads as all-reads
 use Rattle.slow.proofs.backs.Reads as backs-reads
 use Rattle.slow.proofs.last_part.Reads as last-part-reads
-use Rattle.slow.proofs.lesser.Reads as lesser-reads
 use Rattle.slow.proofs.walk.Reads as walk-reads
 use Rattle.times.proofs.fastest_delays.Reads as fastest-delays-reads
 use Rattle.times.proofs.times_of.Reads as times-of-reads

@@ -12,7 +12,7 @@ use lib.Seq.{getD-set-same, getD-set-other}
 use Rattle.theory.specs.Sum.{cells}
 use Rattle.curve.specs.Curve.{noRun, lengthAt, savingAt}
 use Rattle.board.specs.declared.Board.{Board}
-use Rattle.board.specs.Board.{WellFormed, view, curveAt, linkAt}
+use Rattle.board.specs.Board.{WellFormed, view, curveAt, linkAt, delayOf}
 use Rattle.solver.specs.Laid.{Put, Laid, RunsLaid}
 
 pub put-done : (tail head base : List ℕ) (a from to ticks : ℕ) → length tail ≡ 448 → length head ≡ 448 → length base ≡ 448 → a < 448 →
@@ -62,10 +62,10 @@ module _ (b : Board) (k : ℕ) (tail head base tail′ head′ base′ tail″ h
   parts-more l p = laid-more 0 _ _ _ tail head base k tail′ head′ base′ tail″ head″ base″ k _ _ _ (omega arith) refl refl refl l p
 
   pub links-more : Laid (b .parts) k (λ l. 64 + view b .from l) (view b .to) (view b .wire) tail head base tail′ head′ base′ →
-      Put (b .parts + k) (64 + linkAt b k .from) (linkAt b k .to) 0 tail′ head′ base′ tail″ head″ base″ →
+      (ticks : ℕ) → ticks ≡ delayOf (linkAt b k) → Put (b .parts + k) (64 + linkAt b k .from) (linkAt b k .to) ticks tail′ head′ base′ tail″ head″ base″ →
       Laid (b .parts) (k + 1) (λ l. 64 + view b .from l) (view b .to) (view b .wire) tail head base tail″ head″ base″
   unfolding view
-  links-more l p = laid-more (b .parts) _ _ _ tail head base k tail′ head′ base′ tail″ head″ base″ _ _ _ _ refl refl refl refl l p
+  links-more l ticks is p = laid-more (b .parts) _ _ _ tail head base k tail′ head′ base′ tail″ head″ base″ _ _ _ _ refl refl refl is l p
 
   module _ (first : ℕ) where
     pub entries-more : Laid first k (λ p. 128) (λ p. p) (λ p. 0) tail head base tail′ head′ base′ →

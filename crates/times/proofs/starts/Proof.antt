@@ -12,7 +12,7 @@ use Rattle.times.proofs.starts.Lts as lts
 use Rattle.curve.proofs.Ticks.later.Reads as later-reads
 use Rattle.curve.proofs.Ticks.plus.Reads as plus-reads
 use Rattle.curve.proofs.no_ticks.Reads as no-ticks-reads
-use Rattle.times.proofs.wire.Reads as wire-reads
+use Rattle.board.proofs.link_delay.Reads as link-delay-reads
 
 abbrev Inv-loop : tie.InvT-loop
 Inv-loop n link e s₀ k₀ s k = (k ≤ n) × (s ≡ startsOf link k e)
@@ -38,8 +38,8 @@ mul-plus c = search (scaled, from-below, to-below, needs)
 array-copy-out-plus : tie.Need-array-copy-out-plus Inv-loop μ-loop
 array-copy-out-plus c = search (scaled, from-below, to-below, needs)
 
-wire-requires : tie.Need-wire-requires Inv-loop μ-loop
-wire-requires c κs = search needs
+link-delay-requires : tie.Need-link-delay-requires Inv-loop μ-loop
+link-delay-requires c κs = search needs
 
 plus-requires : tie.Need-plus-requires Inv-loop μ-loop
 plus-requires c κs = search needs
@@ -83,7 +83,7 @@ starts-spec =
     array-copy-out-l
     mul-plus
     array-copy-out-plus
-    wire-requires
+    link-delay-requires
     plus-requires
     mul-later
     array-copy-out-later

@@ -23,6 +23,9 @@ mul-link c = search needs
 element-copy-out-link : tie.Need-element-copy-out-link Inv-loop μ-loop
 element-copy-out-link c = search needs
 
+link-delay-requires : tie.Need-link-delay-requires Inv-loop μ-loop
+link-delay-requires c κs = search needs
+
 add-put : tie.Need-add-put Inv-loop μ-loop
 add-put c = search needs
 
@@ -53,6 +56,7 @@ lay-links-spec =
     loop-holds
     mul-link
     element-copy-out-link
+    link-delay-requires
     add-put
     add-put-2
     put-requires
