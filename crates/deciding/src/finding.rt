@@ -1,4 +1,5 @@
-// Loads and the first times that fit them: those in the sheet where they are taken, and else those of the main loop.
+// Loads and the first times that fit them, which together prove the times cheapest: those in the sheet, whatever they are, where they are taken; and
+// those of the main loop.
 use crate::balancing;
 use crate::raising;
 use mainloop::crashing;
@@ -28,23 +29,13 @@ fn begin(net: &[u32; 2048], work: &mut [u32; 968])
     }
 }
 
-// Loads by the main loop. Its own times are cheapest too, but the first that fit its loads are asked for; there are some, so no is not heard.
-fn from_late(net: &[u32; 2048], work: &mut [u32; 968], due: u32)
+// Loads by the main loop, from the times that the net has. Its own times are cheapest too, but the first that fit its loads are asked for; there are
+// some, so no is not heard.
+pub fn from_late(net: &[u32; 2048], work: &mut [u32; 968], due: u32)
     requires { ⌜ PreparedIn (now net) due ⌝ }
     ensures { λ _. ⌜ ProvesIn (now (net .entry)) due (now (work .exit)) ⌝ }
 {
     begin(net, work);
     crashing::crash(net, work, due);
     raising::decide(net, work, due);
-}
-
-// Loads and the first times that fit them, which together prove the times cheapest. The loads in the sheet may be any numbers.
-pub fn find(net: &[u32; 2048], work: &mut [u32; 968], due: u32)
-    requires { ⌜ PreparedIn (now net) due ⌝ }
-    ensures { λ _. ⌜ ProvesIn (now (net .entry)) due (now (work .exit)) ⌝ }
-{
-    if answer(net, work, due) {
-        return;
-    }
-    from_late(net, work, due);
 }

@@ -7,9 +7,9 @@ use Prim.Native.Nat.{ℕ, zero, suc, _+_, _-_, _≤_, _<_}
 use native.Mathlib.Omega.{arith}
 use native.Mathlib.Decide.{ℕ-discrete}
 use Rattle.theory.specs.Sum.{sum, share, into, More}
-use Rattle.theory.proofs.SumLaws.{sum-ge, sum-change, sum-const, share-eq, share-ne, into-more}
+use Rattle.theory.proofs.SumLaws.{sum-ext, sum-ge, sum-change, sum-const, share-eq, share-ne, into-more}
 use Rattle.nets.specs.Net.{Net}
-use Rattle.nets.specs.Flow.{Fit, Flows, Lowers, World}
+use Rattle.nets.specs.Flow.{Fit, Flows, Lowers, World, First, Sheet}
 use Rattle.nets.specs.Judge.{Rises, Falls, Shrinks, Stretches, Leads, Leads.on, Leads.back, Open}
 use Rattle.nets.specs.Label.{lack, ticks, arcOf, After, Way, Way.on, Way.back, Led, Labels, Fresh}
 use Rattle.nets.specs.Steps.{Moved}
@@ -345,3 +345,24 @@ module _ (N : Net) (due : ℕ) (w : World N due) (t x : ℕ → ℕ) (count : �
         w .bound t x f late,
         w .bound t x′ f′ late,
       )
+
+-- ---- loads that agree on the arcs
+module _ (N : Net) (due : ℕ) (x x′ : ℕ → ℕ) (same : (a : ℕ) → a < N .arcs → x′ a ≡ x a) where
+  pub first-agrees : (t : ℕ → ℕ) → First N due x t → First N due x′ t
+  first-agrees t f = record {
+    fit = λ a h. fit-same N t x a (f .fit a h) x′ (same a h);
+    root = f .root;
+    end = f .end;
+    least = λ u g l v h. f .least u (λ a i. fit-same N u x′ a (g a i) x (sym (same a i))) l v h;
+  }
+
+module _ (N : Net) (x x′ : ℕ → ℕ) (same : (a : ℕ) → a < N .arcs → x′ a ≡ x a) where
+  into-agrees : (end : ℕ → ℕ) (v : ℕ) → into (N .arcs) end x′ v ≡ into (N .arcs) end x v
+  unfolding into
+  into-agrees end v = sum-ext (N .arcs) (λ a h. ap (share (end a) v) (same a h))
+
+  pub sheet-agrees : Sheet (N .arcs) (N .tail) (N .head) x → Sheet (N .arcs) (N .tail) (N .head) x′
+  sheet-agrees s = record {
+    small = λ a h. omega (arith, same a h, s .small a h);
+    balanced = record { balance = λ v h. into-agrees (N .head) v ∙ s .balanced .balance v h ∙ sym (into-agrees (N .tail) v) };
+  }

@@ -27,6 +27,13 @@ LATE = 1856
 abbrev pub ARCS : ℕ
 ARCS = 1986
 
+-- how many parts, and the ticks that a path may take: for the advice alone
+abbrev pub PARTS : ℕ
+PARTS = 1987
+
+abbrev pub DUE : ℕ
+DUE = 1988
+
 -- ---- the work: 130 nodes, 448 arcs
 abbrev pub TIME : ℕ
 TIME = 0

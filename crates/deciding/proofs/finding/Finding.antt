@@ -121,7 +121,3 @@ module _ (net : List ℕ) where
             sheet = rw still (record { small = c .crashed .good .small; balanced = c .crashed .good .flows .balanced });
             first = rw still (taken w₂ r d);
           }
-
--- ---- loads that are taken
-pub find-taken : (net : List ℕ) (due : ℕ) (w w′ : List ℕ) (r : Bool) → AnsweredIn net due w w′ r → r ≡ true → ProvesIn net due w′
-find-taken net due w w′ r a e = a .yes e

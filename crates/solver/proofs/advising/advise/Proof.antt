@@ -1,0 +1,14 @@
+-- `advising::advise` meets its contract.
+-- Assumes nothing.
+use borrow.Author.Needs.{needs}
+use Rattle.solver.proofs.advising.advise.Statement.{statement}
+use Rattle.solver.proofs.advising.advise.Tie as tie
+
+lay-loads-requires : tie.Need-lay-loads-requires
+lay-loads-requires c κs = search needs
+
+returns : tie.Need-returns
+returns c = search needs
+
+pub advise-spec : {M : Type 1} → statement M
+advise-spec = tie.close (tie.spec lay-loads-requires returns)
