@@ -11,7 +11,8 @@ use Rattle.theory.proofs.SumLaws.{sum-le, sum-const, sum-change}
 use Rattle.nets.specs.Net.{Net}
 use Rattle.nets.specs.Flow.{Fit, Decided}
 use Rattle.nets.proofs.Steps.{Put}
-use Rattle.deciding.specs.Rise.{Above, Below, AllFit, Asks, Rises, Hopeless, Raised, again, left}
+use Rattle.deciding.specs.Asking.{Above, Below, Asks}
+use Rattle.deciding.specs.Raising.{AllFit, Rises, Hopeless, Raised, again, left}
 use Rattle.deciding.specs.declared.asking.Raise.{Raise}
 
 again-none : (r : ℕ) → r ≢ 1 → again r ≡ 0

@@ -1,8 +1,8 @@
 // What one arc asks of the times.
 ghost use mathlib.Core.Path.{_≡_};
 ghost use Rattle.nets.specs.Sheet.{gainIn, BendsIn};
-ghost use Rattle.deciding.specs.Rise.{Above, Early, Says};
-ghost use Rattle.deciding.specs.Sheets.{PlacedIn, endsIn};
+ghost use Rattle.deciding.specs.Asking.{Above, Early, Says};
+ghost use Rattle.deciding.specs.Asking.{PlacedIn, endsIn};
 
 // How many ticks of arc `a` save more than `x`. Arcs from 64 on have no runs.
 fn above(net: &[u32; 2048], a: usize, x: u32) -> u32
@@ -42,7 +42,7 @@ pub struct Ends {
 }
 
 // Arc `a`, read out of the sheets.
-pub fn ends_at(net: &[u32; 2048], work: &[u32; 968], a: usize) -> Ends
+pub(crate) fn ends_at(net: &[u32; 2048], work: &[u32; 968], a: usize) -> Ends
     requires { ⌜ PlacedIn (now net) (now work) a ⌝ }
     ensures { λ r. ⌜ r ≡ endsIn (now (net .entry)) (now (work .entry)) a ⌝ }
 {
@@ -60,7 +60,7 @@ pub fn ends_at(net: &[u32; 2048], work: &[u32; 968], a: usize) -> Ends
 
 // What arc `a`, which is `k`, asks for: nothing where it fits, else a later time of one of its ends. Too short for its load its head is too early, too
 // long its tail; without a load it is never too long.
-pub fn ask(net: &[u32; 2048], a: usize, k: Ends) -> Raise
+pub(crate) fn ask(net: &[u32; 2048], a: usize, k: Ends) -> Raise
     requires { ⌜ BendsIn (now net) a ⌝ }
     requires { ⌜ Early k ⌝ }
     ensures { λ r. ⌜ Says (gainIn (now (net .entry)) a) k r ⌝ }

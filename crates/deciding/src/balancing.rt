@@ -1,7 +1,7 @@
 // Whether loads are a sheet: none above 64,000, and as much to each part's start and end as from it.
 use crate::raising;
-ghost use Rattle.deciding.specs.Sheets.{SoundIn};
-ghost use Rattle.deciding.specs.Weigh.{WeighableIn, WeighsIn, WeighingIn, WeighedIn, BalancedIn};
+ghost use Rattle.nets.specs.Sheet.{SoundIn};
+ghost use Rattle.deciding.specs.Balancing.{WeighableIn, WeighsIn, WeighingIn, WeighedIn, BalancedIn};
 
 // What every sum starts at, so that none falls below 0.
 const LEVEL: u32 = 30000000;
@@ -38,7 +38,7 @@ fn weigh(net: &[u32; 2048], work: &mut [u32; 968]) -> bool
 }
 
 // Whether the loads are a sheet.
-pub fn balanced(net: &[u32; 2048], work: &mut [u32; 968]) -> bool
+pub(crate) fn balanced(net: &[u32; 2048], work: &mut [u32; 968]) -> bool
     requires { ⌜ SoundIn (now net) ⌝ }
     ensures { λ r. ⌜ BalancedIn (now (net .entry)) (now (work .entry)) (now (work .exit)) r ⌝ }
 {

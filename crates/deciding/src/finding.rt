@@ -3,8 +3,8 @@
 use crate::balancing;
 use crate::raising;
 use mainloop::crashing;
-ghost use Rattle.deciding.specs.Sheets.{FairIn};
-ghost use Rattle.deciding.specs.Answer.{PreparedIn, BegunIn, ProvesIn, AnsweredIn};
+ghost use Rattle.deciding.specs.Raising.{FairIn};
+ghost use Rattle.deciding.specs.Finding.{PreparedIn, BegunIn, ProvesIn, AnsweredIn};
 
 // Whether the loads are a sheet and there are times that fit them and end at the deadline. Then the times are the first such.
 pub fn answer(net: &[u32; 2048], work: &mut [u32; 968], due: u32) -> bool

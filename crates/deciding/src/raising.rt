@@ -2,7 +2,7 @@
 use crate::asking;
 use mainloop::judging;
 ghost use Prim.Native.Nat.{_+_, _≤_};
-ghost use Rattle.deciding.specs.Sheets.{FairIn, WithinIn, SettledIn, FollowedIn, SweptIn, FilledIn, DecidedIn};
+ghost use Rattle.deciding.specs.Raising.{FairIn, WithinIn, SettledIn, FollowedIn, SweptIn, FilledIn, DecidedIn};
 
 // Arc `a` is given what it asks for. 2: it asked for nothing; 1: a node was raised; 0: it cannot be had. A number that is no arc asks for nothing.
 fn settle(net: &[u32; 2048], work: &mut [u32; 968], due: u32, a: u32) -> u32
@@ -60,7 +60,7 @@ fn sweep(net: &[u32; 2048], work: &mut [u32; 968], due: u32) -> u32
 }
 
 // The `n` cells from `from` on are `y`.
-pub fn fill(work: &mut [u32; 968], from: usize, n: usize, y: u32)
+pub(crate) fn fill(work: &mut [u32; 968], from: usize, n: usize, y: u32)
     requires { ⌜ n ≤ 968 ⌝ }
     requires { ⌜ from + n ≤ 968 ⌝ }
     ensures { λ _. ⌜ FilledIn (now (work .entry)) from n y n (now (work .exit)) ⌝ }
@@ -74,7 +74,7 @@ pub fn fill(work: &mut [u32; 968], from: usize, n: usize, y: u32)
 }
 
 // The first times that fit the loads and end at the deadline, or no.
-pub fn decide(net: &[u32; 2048], work: &mut [u32; 968], due: u32) -> bool
+pub(crate) fn decide(net: &[u32; 2048], work: &mut [u32; 968], due: u32) -> bool
     requires { ⌜ FairIn (now net) due ⌝ }
     ensures { λ r. ⌜ DecidedIn (now (net .entry)) due (now (work .entry)) (now (work .exit)) r ⌝ }
 {

@@ -1,4 +1,5 @@
--- The main loop in the sheets.
+-- The main loop: from times and loads that fit, and end too late, down to the deadline. `StateIn` is what every turn keeps; each turn leaves less to do
+-- (`left` of the crate `nets`), since above the deadline no more than 64,000 can come to the sink.
 -- Assumes nothing.
 use mathlib.Core.Path.{_≡_}
 use mathlib.Core.List.{List}

@@ -11,7 +11,7 @@ ghost use Rattle.nets.specs.Sheet.{GoodIn, WideIn};
 ghost use Rattle.mainloop.specs.Crashing.{StateIn, TurnedIn, CrashedIn};
 
 // One turn. How many nodes have a label then is returned.
-pub fn turn(net: &[u32; 2048], work: &mut [u32; 968], due: u32, count: usize) -> usize
+pub(crate) fn turn(net: &[u32; 2048], work: &mut [u32; 968], due: u32, count: usize) -> usize
     requires { ⌜ WideIn (now net) due ⌝ }
     requires { ⌜ StateIn (now net) (now work) count ⌝ }
     requires { ⌜ due < cells (now work) (TIME + 129) ⌝ }

@@ -14,7 +14,7 @@ pub fn lesser(a: u32, b: u32) -> u32
 }
 
 // Arc `a`, read out of the sheets.
-pub fn arc_at(net: &[u32; 2048], work: &[u32; 968], a: usize) -> Arc
+pub(crate) fn arc_at(net: &[u32; 2048], work: &[u32; 968], a: usize) -> Arc
     requires { ⌜ Here (now net) (now work) a ⌝ }
     ensures { λ r. ⌜ r ≡ arcIn (now (net .entry)) (now (work .entry)) a ⌝ }
 {
@@ -38,7 +38,7 @@ pub struct Run {
 }
 
 // The run of arc `a` that tick `j` lies in. Arcs from 64 on have no runs, and past the last run nothing is saved.
-pub fn run_at(net: &[u32; 2048], a: usize, j: u32) -> Run
+pub(crate) fn run_at(net: &[u32; 2048], a: usize, j: u32) -> Run
     requires { ⌜ BendsIn (now net) a ⌝ }
     requires { ⌜ j < 1048576 ⌝ }
     ensures { λ r. ⌜ RunAt (gainIn (now (net .entry)) a) j r ⌝ }
@@ -139,7 +139,7 @@ fn fall(net: &[u32; 2048], a: usize, k: Arc) -> Sight
 }
 
 // Arc `a`, which is `k`, is judged. Where both of its ends have a label or none has, it stops nothing.
-pub fn judge(net: &[u32; 2048], a: usize, k: Arc) -> Sight
+pub(crate) fn judge(net: &[u32; 2048], a: usize, k: Arc) -> Sight
     requires { ⌜ BendsIn (now net) a ⌝ }
     requires { ⌜ Calm (gainIn (now net) a) k ⌝ }
     ensures { λ r. ⌜ Judged (gainIn (now (net .entry)) a) k a r ⌝ }
@@ -163,7 +163,7 @@ pub fn judge(net: &[u32; 2048], a: usize, k: Arc) -> Sight
 }
 
 // The first arc that can label a node; or where there is none, how far the labelled nodes may go down, up to `most`.
-pub fn scan(net: &[u32; 2048], work: &[u32; 968], most: u32) -> Sight
+pub(crate) fn scan(net: &[u32; 2048], work: &[u32; 968], most: u32) -> Sight
     requires { ⌜ ReadyIn (now net) (now work) ⌝ }
     requires { ⌜ 0 < most ⌝ }
     ensures { λ r. ⌜ ScannedIn (now (net .entry)) (now (work .entry)) most r ⌝ }

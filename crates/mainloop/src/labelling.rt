@@ -4,7 +4,7 @@ ghost use Prim.Native.Nat.{_<_};
 ghost use Rattle.mainloop.specs.Labelling.{MarkedIn, FreshIn};
 
 // Node `v` is labelled by arc `a`. This is the one place that writes a label.
-pub fn mark(work: &mut [u32; 968], v: usize, a: usize, room: u32, count: usize)
+pub(crate) fn mark(work: &mut [u32; 968], v: usize, a: usize, room: u32, count: usize)
     requires { ⌜ v < 130 ⌝ }
     requires { ⌜ a < 448 ⌝ }
     requires { ⌜ count < 130 ⌝ }
@@ -17,7 +17,7 @@ pub fn mark(work: &mut [u32; 968], v: usize, a: usize, room: u32, count: usize)
 }
 
 // Only the sink has a label.
-pub fn reset(work: &mut [u32; 968])
+pub(crate) fn reset(work: &mut [u32; 968])
     ensures { λ _. ⌜ FreshIn (now (work .entry)) (now (work .exit)) ⌝ }
 {
     nets::seen(work);

@@ -2,7 +2,7 @@
 ghost use Rattle.nets.specs.Steps.{Moved};
 ghost use Rattle.mainloop.specs.Lowering.{ShiftedIn};
 
-pub fn moved(t: u32, room: u32, d: u32) -> u32
+pub(crate) fn moved(t: u32, room: u32, d: u32) -> u32
     ensures { λ r. ⌜ Moved t room d r ⌝ }
 {
     if room == 0 {
@@ -15,7 +15,7 @@ pub fn moved(t: u32, room: u32, d: u32) -> u32
 }
 
 // The labelled nodes `d` earlier.
-pub fn shift(work: &mut [u32; 968], d: u32)
+pub(crate) fn shift(work: &mut [u32; 968], d: u32)
     ensures { λ _. ⌜ ShiftedIn (now (work .entry)) d 130 (now (work .exit)) ⌝ }
 {
     nets::seen(work);

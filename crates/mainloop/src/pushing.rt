@@ -19,7 +19,7 @@ fn carry(net: &[u32; 2048], work: &mut [u32; 968], v: usize, d: u32) -> usize
 }
 
 // As much as there is room for is pushed all the way from the source to the sink.
-pub fn push(net: &[u32; 2048], work: &mut [u32; 968])
+pub(crate) fn push(net: &[u32; 2048], work: &mut [u32; 968])
     requires { ⌜ PushableIn (now net) (now work) ⌝ }
     ensures { λ _. ⌜ PushedIn (now (net .entry)) (now (work .entry)) (now (work .exit)) ⌝ }
 {

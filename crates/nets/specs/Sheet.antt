@@ -39,6 +39,10 @@ gainIn net = gainOf (lengthsIn net) (savingsIn net)
 abbrev pub BendsIn : List ℕ → ℕ → Type 0
 BendsIn net a = Bends (cells (baseIn net) a) (lengthsIn net) (savingsIn net) a
 
+-- the arcs lie within the sheet, and their ends are nodes
+abbrev pub SoundIn : List ℕ → Type 0
+SoundIn net = Sound (arcsIn net) (tailIn net) (headIn net)
+
 unfoldable pub WideIn : List ℕ → ℕ → Type 0
 WideIn net due = Wide (arcsIn net) (tailIn net) (headIn net) (baseIn net) (lengthsIn net) (savingsIn net) due
 
@@ -65,7 +69,7 @@ GoodIn net w = Good (netIn net) (timeIn w) (loadIn w)
 -- a network that labels can grow on
 pub record ReadyIn (net w : List ℕ) : Type 0 where
   pub few : arcsIn net ≤ 448
-  pub sound : Sound (arcsIn net) (tailIn net) (headIn net)
+  pub sound : SoundIn net
   pub curved : Curved (arcsIn net) (baseIn net) (lengthsIn net) (savingsIn net)
   pub good : Good (netIn net) (timeIn w) (loadIn w)
 

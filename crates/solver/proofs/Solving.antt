@@ -34,7 +34,7 @@ use Rattle.nets.specs.Sheet.{netIn, arcsIn, timeIn, loadIn}
 use Rattle.nets.proofs.Bridge.{balanced-conserves}
 use Rattle.nets.proofs.Nodes.{first-held, first-slack}
 use Rattle.nets.proofs.Steps.{first-agrees, sheet-agrees}
-use Rattle.deciding.specs.Weigh.{SheetIn}
+use Rattle.deciding.specs.Balancing.{SheetIn}
 use Rattle.solver.specs.declared.Solved.{Solved}
 use Rattle.solver.specs.declared.judging.Judged.{Judged}
 use Rattle.solver.specs.Verdict.{Verdict, looped, slow, fine}

@@ -13,7 +13,7 @@ use Rattle.times.specs.declared.Schedule.{Schedule}
 use Rattle.times.specs.Times.{slowestsOf, TimesOf}
 use Rattle.nets.specs.Layout.{LATE}
 use Rattle.nets.specs.Region.{Only}
-use Rattle.deciding.specs.Answer.{ProvesIn}
+use Rattle.deciding.specs.Finding.{ProvesIn}
 use Rattle.solver.specs.Wiring.{NetworkIn}
 use Rattle.solver.specs.Solve.{Solvable}
 

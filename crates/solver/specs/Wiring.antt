@@ -9,9 +9,9 @@ use lib.ListN.{length}
 use Rattle.theory.specs.Sum.{cells}
 use Rattle.nets.specs.Layout.{ARCS, BASE, HEAD, LENGTH, SAVING, TAIL}
 use Rattle.nets.specs.Region.{Only}
-use Rattle.nets.specs.Net.{Sound, Curved}
+use Rattle.nets.specs.Net.{Curved}
 use Rattle.nets.specs.Wired.{Wired}
-use Rattle.nets.specs.Sheet.{netIn, arcsIn, tailIn, headIn, baseIn, lengthsIn, savingsIn}
+use Rattle.nets.specs.Sheet.{netIn, SoundIn, arcsIn, baseIn, lengthsIn, savingsIn}
 use Rattle.curve.specs.Curve.{lengthAt, savingAt}
 use Rattle.board.specs.declared.Board.{Board}
 use Rattle.board.specs.Board.{view, curveAt}
@@ -68,5 +68,5 @@ pub record CountedIn (arcs : ℕ) (net net′ : List ℕ) : Type 0 where
 -- the sheet holds the board's network, and it is one that the main loop and the verdict can work on
 pub record NetworkIn (b : Board) (net : List ℕ) : Type 0 where
   pub wired : Wired (view b) (netIn net)
-  pub sound : Sound (arcsIn net) (tailIn net) (headIn net)
+  pub sound : SoundIn net
   pub curved : Curved (arcsIn net) (baseIn net) (lengthsIn net) (savingsIn net)

@@ -31,10 +31,12 @@ pub struct Solved {
 }
 
 // What may be known of a board before it is solved, any numbers at all: loads of its arcs, and times of the nodes, of parts' starts and ends, source
-// and sink. Where the sink has none, all parts at their slowest are begun from.
+// and sink. Where the sink has none, all parts at their slowest are begun from. Loads that are ready are judged as they are, with no advice sought: so
+// trials reach the verdict and the main loop.
 pub struct Advice {
     pub loads: [u32; 448],
     pub times: [u32; 130],
+    pub ready: bool,
 }
 
 // Nothing known.
@@ -43,6 +45,7 @@ pub fn no_advice() -> Advice {
     Advice {
         loads: reading::no_loads(),
         times,
+        ready: false,
     }
 }
 

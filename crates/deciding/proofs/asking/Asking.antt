@@ -17,8 +17,8 @@ use Rattle.nets.specs.Net.{lengthAt, savingAt, gainOf}
 use Rattle.nets.specs.Sheet.{tailIn, headIn, baseIn, lengthsIn, savingsIn, gainIn, BendsIn, netIn, timeIn, loadIn}
 use Rattle.nets.proofs.Regions.{region-length, region-cell}
 use Rattle.mainloop.proofs.judging.Judging.{flat, gain-past}
-use Rattle.deciding.specs.Rise.{Above, Early, Says, Says.short, Says.long, Says.fits}
-use Rattle.deciding.specs.Sheets.{PlacedIn, endsIn, AsksIn}
+use Rattle.deciding.specs.Asking.{Above, Early, Says, Says.short, Says.long, Says.fits}
+use Rattle.deciding.specs.Asking.{PlacedIn, endsIn, AsksIn}
 use Rattle.deciding.specs.declared.asking.Ends.{Ends}
 use Rattle.deciding.specs.declared.asking.Raise.{Raise}
 use Rattle.deciding.proofs.Rising.{asks-head, asks-tail, asks-none}

@@ -17,8 +17,9 @@ use Rattle.nets.specs.Sheet.{tailIn, headIn, arcsIn, loadIn, roomIn}
 use Rattle.nets.proofs.Regions.{region-length, region-cell, set-in, only-none, only-set, only-then, only-apart}
 use Rattle.mainloop.proofs.Places.{put-cell}
 use Rattle.nets.proofs.Steps.{Put}
-use Rattle.deciding.specs.Sheets.{SoundIn, FilledIn}
-use Rattle.deciding.specs.Weigh.{LEVEL, Sums, SheetIn, putIn, WeighableIn, WeighsIn, WeighingIn, WeighedIn, BalancedIn}
+use Rattle.nets.specs.Sheet.{SoundIn}
+use Rattle.deciding.specs.Raising.{FilledIn}
+use Rattle.deciding.specs.Balancing.{LEVEL, Sums, SheetIn, putIn, WeighableIn, WeighsIn, WeighingIn, WeighedIn, BalancedIn}
 
 -- ---- sums over functions
 share-le : (p i v : ℕ) → share p i v ≤ v

@@ -16,9 +16,9 @@ use Rattle.nets.specs.Flow.{Fit, World, First, Never}
 use Rattle.mainloop.specs.Crashing.{CrashedIn}
 use Rattle.nets.specs.Sheet.{arcsIn, tailIn, headIn, netIn, timeIn, loadIn, GoodIn, WideIn}
 use Rattle.nets.proofs.Regions.{region-cell, only-apart}
-use Rattle.deciding.specs.Sheets.{DecidedIn, FilledIn}
-use Rattle.deciding.specs.Weigh.{SheetIn, BalancedIn}
-use Rattle.deciding.specs.Answer.{lateIn, PreparedIn, BegunIn, ProvesIn, AnsweredIn}
+use Rattle.deciding.specs.Raising.{DecidedIn, FilledIn}
+use Rattle.deciding.specs.Balancing.{SheetIn, BalancedIn}
+use Rattle.deciding.specs.Finding.{lateIn, PreparedIn, BegunIn, ProvesIn, AnsweredIn}
 
 module _ (net : List ℕ) (due : ℕ) (w w₁ : List ℕ) (b : Bool) (f : BalancedIn net w w₁ b) where
   same : loadIn w₁ ≡ loadIn w

@@ -17,8 +17,9 @@ use Rattle.nets.specs.Flow.{Fit}
 use Rattle.nets.specs.Sheet.{tailIn, headIn, arcsIn, netIn, gainIn, BendsIn, timeIn, loadIn}
 use Rattle.nets.proofs.Regions.{region-length, region-cell, set-in, only-none, only-set, only-then, only-apart}
 use Rattle.mainloop.proofs.Places.{put-cell}
-use Rattle.deciding.specs.Rise.{Early, Says, Asks}
-use Rattle.deciding.specs.Sheets.{FairIn, WithinIn, PlacedIn, endsIn, AsksIn, RisesIn, RaisedIn, FitIn, SettledIn, FollowedIn, SweepingIn, SweptIn, SweepsIn, DecidedIn, FilledIn, leftIn}
+use Rattle.deciding.specs.Asking.{Early, Says, Asks}
+use Rattle.deciding.specs.Raising.{FairIn, WithinIn, RisesIn, RaisedIn, FitIn, SettledIn, FollowedIn, SweepingIn, SweptIn, SweepsIn, DecidedIn, FilledIn, leftIn}
+use Rattle.deciding.specs.Asking.{PlacedIn, endsIn, AsksIn}
 use Rattle.deciding.specs.declared.asking.Ends.{Ends}
 use Rattle.deciding.specs.declared.asking.Raise.{Raise}
 use Rattle.deciding.proofs.asking.Asking.{ends-early, says-asks}

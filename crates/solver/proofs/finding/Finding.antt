@@ -15,8 +15,8 @@ use Rattle.nets.specs.Layout.{LATE}
 use Rattle.nets.specs.Net.{Net}
 use Rattle.nets.specs.Flow.{Fit, World}
 use Rattle.nets.specs.Sheet.{netIn, arcsIn, tailIn, headIn, WideIn}
-use Rattle.deciding.specs.Sheets.{FairIn}
-use Rattle.deciding.specs.Answer.{PreparedIn, ProvesIn, AnsweredIn}
+use Rattle.deciding.specs.Raising.{FairIn}
+use Rattle.deciding.specs.Finding.{PreparedIn, ProvesIn, AnsweredIn}
 use Rattle.solver.specs.Solve.{Solvable}
 use Rattle.solver.specs.Wiring.{NetworkIn}
 use Rattle.solver.specs.Finding.{Begun, Slowest, LateIn, Prepared, Found}
