@@ -11,9 +11,10 @@ use Rattle.refusal.specs.declared.Answer.{Answer}
 use Rattle.refusal.specs.declared.Answer.the-variants.{Done, Refused}
 use Rattle.theory.specs.Graph.{Ranked}
 use Rattle.theory.specs.Budget as theory
+use Rattle.board.specs.declared.Rule.the-variants.{A}
 use Rattle.board.specs.declared.Board.{Board}
 use Rattle.board.specs.Board.{usable, view, WellFormed}
-use Rattle.board.specs.Path.{LoopFree}
+use Rattle.board.specs.Leads.{LoopFree}
 use Rattle.board.proofs.Lawful.{lawful}
 use Rattle.cone.proofs.Cones.{path-from}
 use Rattle.cone.proofs.Loops.{ranked-loop-free}
@@ -46,12 +47,12 @@ use Rattle.cases.proofs.Best.{timesBy, best, best-budget, best-ranked, 
 
 -- ---- a board whose file reads back, and for which the test of delays passed
 pub record Known (b : Board) (delays : List ℕ) : Type 0 where
-  pub read : designOf (fileOf b) ≡ got b (length (fileOf b))
+  pub read : designOf A (fileOf b) ≡ got b (length (fileOf b))
   pub test : best (view b) (usable b) delays ≡ true
 
 module _ (b : Board) (delays : List ℕ) (k : Known b delays) where
   pub known-formed : WellFormed b
-  known-formed = design-well-formed (fileOf b) b (length (fileOf b)) (k .read)
+  known-formed = design-well-formed A (fileOf b) b (length (fileOf b)) (k .read)
 
   known-budget : theory.Budget (view b) (usable b) (timesBy (view b) delays)
   known-budget = best-budget (view b) (lawful b known-formed) (usable b) delays (k .test)
@@ -110,7 +111,7 @@ at-budget b delays k {d = d} a =
 
 -- ---- loads
 module _ (b : Board) (d : Desk) (t : Tally) (r : Loaded) where
-  load-judged : designOf (fileOf b) ≡ got b (length (fileOf b)) → LoadSaid d (fileOf b) t r → LoadJudged b d t r
+  load-judged : designOf A (fileOf b) ≡ got b (length (fileOf b)) → LoadSaid d (fileOf b) t r → LoadJudged b d t r
   load-judged read said = subst (λ (p : Parse Board). LoadParsed p d t r) read (said .parsed)
 
   module _ (delays : List ℕ) (k : Known b delays) where
@@ -121,7 +122,7 @@ module _ (b : Board) (d : Desk) (t : Tally) (r : Loaded) where
     pub load-accepted : LoadSaid d (fileOf b) t r → (r .answer ≡ Done) × At b noTally (r .desk) (r .tally)
     load-accepted said = accepted (load-judged (k .read) said)
 
-  module _ (read : designOf (fileOf b) ≡ got b (length (fileOf b))) (ticks : ℕ) (path : List ℕ) (k : Slow b ticks path) where
+  module _ (read : designOf A (fileOf b) ≡ got b (length (fileOf b))) (ticks : ℕ) (path : List ℕ) (k : Slow b ticks path) where
     load-slow-judged : LoadJudged b d t r → r ≡ loadRefused (Refused TooSlow ticks) path d t
     load-slow-judged (load.refused {path = path′} v is) =
         let s = slow-judged b ticks path k v in

@@ -14,6 +14,7 @@ use Rattle.groups.specs.declared.Read.the-variants as read
 use Rattle.groups.specs.Number.{numberAt}
 use Rattle.curve.specs.declared.Power.the-variants as power
 use Rattle.curve.specs.Answers.{powerAtOf}
+use Rattle.board.specs.declared.Rule.the-variants.{A}
 use Rattle.board.specs.declared.Board.{Board}
 use Rattle.board.specs.Board.{curveAt}
 use Rattle.cone.specs.Cone.{Upstream, Downstream}
@@ -118,7 +119,7 @@ StepsPromised (s ∷ steps) d t = StepPromised s (StepsPromised steps) d t
 
 -- a row of the table
 unfoldable pub Promised : Case → Type 0
-Promised (row.file b bytes) = (fileOf b ≡ bytes) × (designOf bytes ≡ got b (length bytes))
+Promised (row.file b bytes) = (fileOf b ≡ bytes) × (designOf A bytes ≡ got b (length bytes))
 Promised (row.board b steps) =
     (d : Desk) (t : Tally) (r : Loaded) → LoadSaid d (fileOf b) t r → (r .answer ≡ answer.Done) × StepsPromised steps (r .desk) (r .tally)
 Promised (row.board-not b number place path) =

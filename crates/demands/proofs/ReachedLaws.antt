@@ -9,6 +9,7 @@ use Rattle.base.specs.Pick.{pick}
 use Rattle.refusal.specs.declared.Why.{Why}
 use Rattle.refusal.specs.declared.Answer.{Answer}
 use Rattle.refusal.specs.declared.Answer.the-variants.{Done, Refused}
+use Rattle.board.specs.declared.Rule.the-variants.{A}
 use Rattle.board.specs.declared.Board.{Board}
 use Rattle.budget.specs.Budget.{Holds}
 use Rattle.fields.specs.Parse.{Parse, got, stop}
@@ -96,7 +97,7 @@ module _ (d : Desk) (t : Tally) (so : Standing d) where
   kept-standing e = rw e so
 
   pub load-standing : (s : List ℕ) (r : Loaded) → LoadSaid d s t r → Standing (r .desk)
-  load-standing s r said = parsed (designOf s) (said .parsed)
+  load-standing s r said = parsed (designOf A s) (said .parsed)
     where
       judged : (b : Board) → LoadJudged b d t r → Standing (r .desk)
       judged b (load.refused v is) = kept-standing (ap (λ (x : Loaded). x .desk) is)

@@ -10,7 +10,7 @@ use Rattle.theory.specs.Graph.{Times}
 use Rattle.theory.specs.Budget.{Budget}
 use Rattle.board.specs.declared.Board.{Board}
 use Rattle.board.specs.Board.{usable, view, WellFormed}
-use Rattle.board.specs.Path.{LoopFree}
+use Rattle.board.specs.Leads.{LoopFree}
 use Rattle.budget.specs.declared.Budget as value
 use Rattle.budget.specs.Made.{timesIn}
 use Rattle.budget.proofs.BudgetLaws.{allowed-budget}

@@ -16,12 +16,12 @@ use Rattle.base.specs.Pick.{pick}
 use Rattle.base.proofs.Cases.{lt-or-le}
 use Rattle.board.specs.declared.Link.{Link}
 use Rattle.board.specs.declared.Board.{Board}
-use Rattle.board.specs.Board.{WellFormed, Linked, linkAt, noLink, order}
+use Rattle.board.specs.Board.{WellFormed, Linked, plainLink, linkAt, noLink, order}
 use Rattle.board.specs.Tests.{Decides, belowOf}
 use Rattle.board.proofs.LinkLaws.{below-one, below-none, both-hold}
 use Rattle.board.proofs.Ascending.{Parted, parted, rises}
 use Rattle.board.proofs.SameBoard.{orders, to-below}
-use Rattle.edits.specs.Edits.{linkOf, countBefore, placeOf, hasLinkOf, filled, insertedAt, insertedOf, removedAt, removedOf}
+use Rattle.edits.specs.Edits.{countBefore, placeOf, hasLinkOf, filled, insertedAt, insertedOf, removedAt, removedOf}
 
 not-so : (t : Bool) → (t ≡ true → ⊥) → t ≡ false
 not-so true h = absurd (h refl)
@@ -48,29 +48,29 @@ module _ (b : Board) (w : WellFormed b) (x : Link) (small : x .to < 64) where
       (lt-or-le (placeOf b x) l)
 
 -- ---- a board has a link exactly where it stands at its place
-pub has-linked : (b : Board) (from to : ℕ) → hasLinkOf b (linkOf from to) ≡ true → Linked b from to
+pub has-linked : (b : Board) (from to : ℕ) → hasLinkOf b (plainLink from to) ≡ true → Linked b from to
 unfolding hasLinkOf
 has-linked b from to e =
     let t = both-hold _ _ e in
     let u = both-hold _ _ (t .1) in
-    record { link = placeOf b (linkOf from to); here = ltb-true _ _ (t .0); from = eqb-true _ _ (u .0); to = eqb-true _ _ (u .1) }
+    record { link = placeOf b (plainLink from to); here = ltb-true _ _ (t .0); from = eqb-true _ _ (u .0); to = eqb-true _ _ (u .1) }
 
 module _ (b : Board) (w : WellFormed b) (from to : ℕ) (k : Linked b from to) where
   pub ends-small : to < 64
   ends-small = omega (arith, to-below b w (k .link) (k .here), k .to)
 
-  pub linked-place : placeOf b (linkOf from to) ≡ k .link
-  linked-place = place-is b w (linkOf from to) ends-small (k .link) (k .here) (omega (arith, k .from, k .to))
+  pub linked-place : placeOf b (plainLink from to) ≡ k .link
+  linked-place = place-is b w (plainLink from to) ends-small (k .link) (k .here) (omega (arith, k .from, k .to))
 
-  pub linked-has : hasLinkOf b (linkOf from to) ≡ true
+  pub linked-has : hasLinkOf b (plainLink from to) ≡ true
   unfolding hasLinkOf pick
   linked-has = rw (linked-place, lt-ltb _ _ (k .here), eq-eqb _ _ (k .from), eq-eqb _ _ (k .to))
 
-pub has-link-decides : (b : Board) → WellFormed b → (from to : ℕ) → Decides (hasLinkOf b (linkOf from to)) (Linked b from to)
+pub has-link-decides : (b : Board) → WellFormed b → (from to : ℕ) → Decides (hasLinkOf b (plainLink from to)) (Linked b from to)
 has-link-decides b w from to = record { yes = has-linked b from to; no = linked-has b w from to }
 
-pub missing-false : (b : Board) (from to : ℕ) → (Linked b from to → ⊥) → hasLinkOf b (linkOf from to) ≡ false
-missing-false b from to none = not-so (hasLinkOf b (linkOf from to)) (λ e. none (has-linked b from to e))
+pub missing-false : (b : Board) (from to : ℕ) → (Linked b from to → ⊥) → hasLinkOf b (plainLink from to) ≡ false
+missing-false b from to none = not-so (hasLinkOf b (plainLink from to)) (λ e. none (has-linked b from to e))
 
 -- ---- rows
 module _ (old : List Link) (f : ℕ → Link) where

@@ -39,7 +39,7 @@ module _ (s : List ℕ) (i : ℕ) (c : Curve) (at : ℕ) (f : Read) (is : number
   unfolding runFrom and-then
   run-no-length why place r e ends = rw (← is, e) ends
 
-  module _ (length at₁ : ℕ) (e : f ≡ Number length at₁) (g : Read) (is₁ : number g ≡ fieldAt s 1 1000 at₁) where
+  module _ (ticks at₁ : ℕ) (e : f ≡ Number ticks at₁) (g : Read) (is₁ : number g ≡ fieldAt s 1 1000 at₁) where
     pub run-no-saving : (why : Why) (place : ℕ) (r : CurveRead) → g ≡ read.Refused why place → r ≡ curveRead (stop why place) → r ≡ curveRead (runFrom s i c at)
     unfolding runFrom and-then
     run-no-saving why place r e₁ ends = rw (← is, e, ← is₁, e₁) ends
@@ -49,7 +49,7 @@ module _ (s : List ℕ) (i : ℕ) (c : Curve) (at : ℕ) (f : Read) (is : number
       unfolding runFrom and-then pick
       run-not-below r h ends = let b : falls c i saving ≡ false = sym tests ∙ not-true below h in rw (← is, e, ← is₁, e₁, b) ends
 
-      pub run-read : not below ≡ false → record { answer = Done; next = next; curve = withRun c i length saving } ≡ curveRead (runFrom s i c at)
+      pub run-read : not below ≡ false → record { answer = Done; next = next; curve = withRun c i ticks saving } ≡ curveRead (runFrom s i c at)
       unfolding runFrom and-then pick
       run-read h = let b : falls c i saving ≡ true = sym tests ∙ not-false below h in rw (← is, e, ← is₁, e₁, b)
 

@@ -46,7 +46,7 @@ module _ (s post : List ℕ) where
 
   run-kept : (i : ℕ) (c : Curve) (at : ℕ) → Keeps (runFrom s i c at) (runFrom (s ++ post) i c at)
   unfolding runFrom
-  run-kept i c at = then-kept _ _ _ _ (field-kept 1 255 at) (λ length at₁. then-kept _ _ _ _ (field-kept 1 1000 at₁) (λ saving at₂. same-kept _))
+  run-kept i c at = then-kept _ _ _ _ (field-kept 1 255 at) (λ ticks at₁. then-kept _ _ _ _ (field-kept 1 1000 at₁) (λ saving at₂. same-kept _))
 
   runs-kept : (c : Curve) (at k : ℕ) → Keeps (repeat (runFrom s) c at k) (repeat (runFrom (s ++ post)) c at k)
   unfolding repeat

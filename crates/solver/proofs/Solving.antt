@@ -62,18 +62,19 @@ never e = absurd (let z : _≡_ {A = ℕ} 0 1 = cc in omega arith)
 
 solvable-fine : (b : Board) → Solvable b → Verdict b Done []
 solvable-fine b can =
-    fine (ranked-loop-free b 65 (can .ranked)) (record { start = can .start; timed = can .fastest }) (can .in-time)
+    fine (ranked-loop-free b 65 (can .ranked))
+    (record { end = can .end; ends = record { start = can .start; timed = can .fastest }; within = can .in-time })
 
 verdict-solvable : (b : Board) → WellFormed b → {a : Answer} {path : List ℕ} → Verdict b a path → a ≡ Done → Solvable b
 verdict-solvable b w (looped x) e = never e
-verdict-solvable b w (slow free f last over walk) e = never e
-verdict-solvable b w (fine {e = ends} free f within) e = record {
+verdict-solvable b w (slow free x) e = never e
+verdict-solvable b w (fine free k) e = record {
   formed = w;
   ranked = loop-free-ranked b w free;
-  start = f .start;
-  end = ends;
-  fastest = f .timed;
-  in-time = within;
+  start = k .ends .start;
+  end = k .end;
+  fastest = k .ends .timed;
+  in-time = k .within;
 }
 
 module _ (b : Board) (j : Judged) (so : JudgedOf b j) where

@@ -6,7 +6,7 @@ use mathlib.Core.List.{List}
 use Prim.Native.Nat.{ℕ}
 use Rattle.board.specs.declared.Board.{Board}
 use Rattle.board.specs.Board.{WellFormed}
-use Rattle.board.specs.Path.{LoopFree}
+use Rattle.board.specs.Leads.{LoopFree}
 use Rattle.slow.specs.Walk.{trailOf}
 use Rattle.solver.specs.declared.judging.Judged.{Judged}
 use Rattle.solver.specs.Verdict.{Verdict}

@@ -40,7 +40,13 @@ fn lay_links(b: Board, net: &mut [u32; 2048])
     let mut l: usize = 0;
     while l < links {
         let link = b.link[l];
-        put(net, parts + l, 64 + link.from, link.to, times::wire(link));
+        put(
+            net,
+            parts + l,
+            64 + link.from,
+            link.to,
+            board::link_delay(link),
+        );
         l = l + 1;
     }
 }

@@ -5,6 +5,9 @@ use borrow.Author.Needs.{needs}
 use Rattle.edits.proofs.has_link.Statement.{statement}
 use Rattle.edits.proofs.has_link.Tie as tie
 
+plain-link-requires : tie.Need-plain-link-requires
+plain-link-requires c κs = search needs
+
 place-of-requires : tie.Need-place-of-requires
 place-of-requires c κs = search needs
 
@@ -26,4 +29,4 @@ returns-3 c = search (past-links, other-from, same-from)
 pub has-link-spec : {M : Type 1} → statement M
 has-link-spec =
     tie.close
-    (tie.spec place-of-requires returns mul-there element-copy-out-there returns-2 returns-3)
+    (tie.spec plain-link-requires place-of-requires returns mul-there element-copy-out-there returns-2 returns-3)

@@ -8,6 +8,7 @@ use native.Mathlib.Omega.{arith}
 use Rattle.theory.specs.Sum.{cells}
 use Rattle.board.specs.declared.Board.{Board}
 use Rattle.board.specs.Board.{WellFormed, view, usable}
+use Rattle.board.proofs.UsableLaws.{usable-to}
 use Rattle.times.specs.declared.Schedule.{Schedule}
 use Rattle.times.specs.Times.{slowestsOf, Timeable, TimesOf}
 use Rattle.times.proofs.TimesLaws.{slowest-timeable}
@@ -37,8 +38,7 @@ slowest-begun b due s timed t begun = record { schedule = s; timed = timed; begu
 -- ---- what the sheet holds while times are laid on it
 module _ (b : Board) (due : ℕ) (net : List ℕ) (ok : Prepared b net due) where
   due-few : due ≤ 4095
-  unfolding usable
-  due-few = omega (arith, ok .due-is, ok .can .formed .deadline-to)
+  due-few = omega (arith, ok .due-is, usable-to b (ok .can .formed))
 
   pub prepared-fair : FairIn net due
   prepared-fair = record { sound = ok .network .sound; curved = ok .network .curved; due-most = due-few }

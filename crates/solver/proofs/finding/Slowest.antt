@@ -12,6 +12,7 @@ use Rattle.curve.specs.Curve.{slowestOf}
 use Rattle.board.specs.declared.Board.{Board}
 use Rattle.board.specs.Board.{WellFormed, view, usable, curveAt}
 use Rattle.board.proofs.Lawful.{lawful}
+use Rattle.board.proofs.UsableLaws.{usable-to}
 use Rattle.times.specs.declared.Schedule.{Schedule}
 use Rattle.times.specs.Times.{slowestsOf, Timeable, TimesOf}
 use Rattle.times.proofs.TimesLaws.{slowest-at, slowest-timeable, times-to}
@@ -106,7 +107,6 @@ module _ (b : Board) (can : Solvable b) (N : Net) (w : Wired (view b) N) (d : Li
       (lt-or-le p (b .parts))
 
   pub node-most : (v : ℕ) → v < 130 → cells t v ≤ 262144
-  unfolding usable
   node-most v h =
       ⊎-elim (λ (l : v < 64). omega (arith, begun .placed .starts v l, start-most v))
       (λ (l : 64 ≤ v).
@@ -117,5 +117,5 @@ module _ (b : Board) (can : Solvable b) (N : Net) (w : Wired (view b) N) (d : Li
       ⊎-elim (λ (i : v < 129). let e : v ≡ 128 = omega arith in omega (arith, ap (cells t) e, begun .source))
       (λ (i : 129 ≤ v).
       let e : v ≡ 129 = omega arith in
-      omega (arith, ap (cells t) e, begun .placed .early 149370 (omega (arith, ok .deadline-to)) (λ p _. end-most p)))
+      omega (arith, ap (cells t) e, begun .placed .early 149370 (omega (arith, usable-to b ok)) (λ p _. end-most p)))
       (lt-or-le v 129)) (lt-or-le v 128)) (lt-or-le v 64)

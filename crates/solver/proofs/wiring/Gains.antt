@@ -127,9 +127,9 @@ module _ (b : Board) (ok : WellFormed b) (lengths savings : List ℕ) (laid : Ru
             omega (arith, four-fall c good i l, saving-is p i (omega arith) k, saving-is p (suc i) l k);
       }
 
-  pub flat-bends : (a : ℕ) → b .parts ≤ a → Bends 0 lengths savings a
-  flat-bends a h = record {
-    short = omega arith;
+  pub flat-bends : (base : ℕ) → base ≤ 4095 → (a : ℕ) → b .parts ≤ a → Bends base lengths savings a
+  flat-bends base short a h = record {
+    short = short;
     slowest = λ _. omega (arith, sum-ext 4 {f = net.lengthAt lengths a} {g = λ i. 0} (λ i l. length-flat a i l h), sum-zero 4);
     falls = λ _ i l. omega (arith, saving-flat a (suc i) l h);
   }

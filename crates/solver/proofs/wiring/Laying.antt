@@ -16,8 +16,7 @@ use Rattle.nets.specs.Region.{Only}
 use Rattle.nets.proofs.Regions.{only-none, only-set}
 use Rattle.curve.specs.Curve.{noRun, lengthAt, savingAt}
 use Rattle.board.specs.declared.Board.{Board}
-use Rattle.board.specs.Board.{WellFormed, view, curveAt, linkAt}
-use Rattle.times.specs.Times.{wireOf}
+use Rattle.board.specs.Board.{WellFormed, view, curveAt, linkAt, delayOf}
 use Rattle.solver.specs.Wiring.{Span, span, spanIn, partSpan, linkSpan, entrySpan, exitSpan, PutIn, LaidIn, RunsIn, CountedIn}
 
 -- ---- one arc
@@ -86,10 +85,10 @@ module _ (b : Board) (ok : WellFormed b) (k : ℕ) (net net′ net″ : List ℕ
   unfolding view
   parts-more h l p = laid-more 0 (partSpan b) net k net′ net″ k (omega arith) (omega (arith, ok .parts-to)) l p
 
-  pub links-more : k < b .links → (w : ℕ) → w ≡ wireOf (linkAt b k) → LaidIn (b .parts) k (linkSpan b) net net′ →
+  pub links-more : k < b .links → (w : ℕ) → w ≡ delayOf (linkAt b k) → LaidIn (b .parts) k (linkSpan b) net net′ →
       PutIn (b .parts + k) (span (64 + linkAt b k .from) (linkAt b k .to) w) net′ net″ →
       LaidIn (b .parts) (k + 1) (linkSpan b) net net″
-  unfolding view wireOf
+  unfolding view
   links-more h w e l p = laid-more (b .parts) (linkSpan b) net k net′ net″ (b .parts + k) refl (omega (arith, ok .parts-to, ok .links-to)) l (rw e at p)
 
   pub entries-more : k < b .parts → LaidIn (b .parts + b .links) k entrySpan net net′ → PutIn (b .parts + b .links + k) (span 128 k 0) net′ net″ →

@@ -7,6 +7,7 @@ use native.Mathlib.Omega.{arith}
 use Rattle.theory.specs.Sum.{cells}
 use Rattle.board.specs.declared.Board.{Board}
 use Rattle.board.specs.Board.{WellFormed, view}
+use Rattle.board.proofs.Lawful.{wire-to}
 use Rattle.nets.specs.Layout.{ARCS, BASE, HEAD, LATE, LENGTH, SAVING, TAIL}
 use Rattle.nets.specs.Region.{Only}
 use Rattle.nets.specs.Net.{Net, Bends}
@@ -136,9 +137,9 @@ module _ (b : Board) (ok : WellFormed b) (n₀ n₁ n₂ n₃ n₄ n₅ n₆ : L
             bends =
                 each-arc (view b) (λ a. Bends (cells (baseIn n₆) a) (lengthsIn n₆) (savingsIn n₆) a)
                 (λ p h. rw (w .part-base p h) (part-bends b ok (lengthsIn n₆) (savingsIn n₆) laid-runs p h))
-                (λ l h. rw (w .link-base l h) (flat-bends b ok (lengthsIn n₆) (savingsIn n₆) laid-runs (n + l) (omega arith)))
-                (λ p h. rw (w .entry-base p h) (flat-bends b ok (lengthsIn n₆) (savingsIn n₆) laid-runs (n + (m + p)) (omega arith)))
-                (λ p h. rw (w .exit-base p h) (flat-bends b ok (lengthsIn n₆) (savingsIn n₆) laid-runs (n + (m + (n + p))) (omega arith)))
+                (λ l h. rw (w .link-base l h) (flat-bends b ok (lengthsIn n₆) (savingsIn n₆) laid-runs (view b .wire l) (omega (arith, wire-to b ok l h)) (n + l) (omega arith)))
+                (λ p h. rw (w .entry-base p h) (flat-bends b ok (lengthsIn n₆) (savingsIn n₆) laid-runs 0 (omega arith) (n + (m + p)) (omega arith)))
+                (λ p h. rw (w .exit-base p h) (flat-bends b ok (lengthsIn n₆) (savingsIn n₆) laid-runs 0 (omega arith) (n + (m + (n + p))) (omega arith)))
                 (arcsIn n₆) (w .arcs);
           };
         }

@@ -28,8 +28,8 @@ add-put c = search needs
 add-put-2 : tie.Need-add-put-2 Inv-loop μ-loop
 add-put-2 c = search (from-fits)
 
-wire-requires : tie.Need-wire-requires Inv-loop μ-loop
-wire-requires c κs = search needs
+link-delay-requires : tie.Need-link-delay-requires Inv-loop μ-loop
+link-delay-requires c κs = search needs
 
 put-requires : tie.Need-put-requires Inv-loop μ-loop
 put-requires c κs = (search (link-in), (search (from-in), search (to-in)))
@@ -57,7 +57,7 @@ lay-links-spec =
     element-copy-out-link
     add-put
     add-put-2
-    wire-requires
+    link-delay-requires
     put-requires
     add-l
     loop-less
