@@ -11,6 +11,10 @@ use Rattle.curve.specs.declared.Microwatts.{Microwatts}
 use Rattle.curve.specs.declared.Run.{Run}
 use Rattle.curve.specs.declared.Curve.{Curve}
 
+-- "power at the fastest 0 to 2,000,000 microwatts"
+abbrev pub powerMax : ℕ
+powerMax = 2000000
+
 -- a place that holds no run
 abbrev pub noRun : Run
 noRun = record { length = record { 0 = 0 }; saving = record { 0 = 0 } }
@@ -49,7 +53,7 @@ powerOf c d = c .power .0 - saves (savingOf c) (d - c .fastest .0)
 pub record Good (c : Curve) : Type 0 where
   pub fastest-from : 1 ≤ c .fastest .0
   pub fastest-to : c .fastest .0 ≤ 1023
-  pub power-to : c .power .0 ≤ 2000000
+  pub power-to : c .power .0 ≤ powerMax
   pub count-to : c .count ≤ 4
   pub length-from : (i : ℕ) → i < c .count → 1 ≤ lengthAt c i
   pub length-to : (i : ℕ) → i < c .count → lengthAt c i ≤ 255

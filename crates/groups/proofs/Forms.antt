@@ -90,9 +90,6 @@ size-more n large less = ap length (encode-more n large less)
 pub size-2 : (n : ℕ) → 128 ≤ n → n < 16384 → length (encode n) ≡ 2
 size-2 n large small = size-more n large (omega arith) ∙ ap suc (size-1 (n / 128) (omega arith))
 
-pub size-3 : (n : ℕ) → 16384 ≤ n → n < 2097152 → length (encode n) ≡ 3
-size-3 n large small = size-more n (omega arith) (omega arith) ∙ ap suc (size-2 (n / 128) (omega arith) (omega arith))
-
 -- ---- the ways through `size`
 pub no-form : (n : ℕ) → limit ≤ n → 0 ≡ length (encode n)
 no-form n most = sym (ap length (encode-none n most))
