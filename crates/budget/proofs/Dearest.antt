@@ -21,6 +21,9 @@ use Rattle.budget.specs.declared.Budget.{Budget}
 use Rattle.budget.specs.Budget.{totalMax, Holds}
 use Rattle.budget.proofs.BudgetLaws.{holds-exactly-one}
 
+pub total-max-is : totalMax ≡ 1280000000
+total-max-is = refl
+
 -- a flat curve of one tick, at the greatest power
 abbrev one : Ticks
 one = record { 0 = 1 }
@@ -78,7 +81,7 @@ module _ (cs : List Curve) (ls : List Link) (long : length cs ≡ 64) (is : (p :
       let held = holds-exactly-one dear dear-formed dear-timed (λ p h. omega (arith, fastest-one p h)) in
       (dear, dear-formed, held .0, held .1, draws-most (held .0) (held .1))
 
--- "the greatest total": some board holds a budget that draws it
+-- "the greatest total 1,280,000,000": some board holds a budget that draws it
 pub total-reached : (b : Board) × WellFormed b × (r : Budget) × Holds b r × (r .total ≡ totalMax)
 total-reached =
     dear-held (replicate 64 (flatOf one most)) (replicate 256 noLink) (length-replicate 64 (flatOf one most)) (λ p h. getD-replicate 64 p (flatOf one most) noCurve h)

@@ -1,4 +1,4 @@
--- 01, The board: "A part's curve: fastest delay 1 to 1,023 ticks; power at the fastest 0 to 2,000,000 microwatts; 0 to 4 runs."
+-- 01, The board: "A part's curve: fastest delay 1 to 1,023 ticks; power at the fastest ..; 0 to 4 runs."
 -- Assumes nothing.
 use mathlib.Core.Path.{_≡_}
 use mathlib.Core.List.{List}
@@ -11,9 +11,9 @@ use Rattle.curve.specs.declared.Microwatts.{Microwatts}
 use Rattle.curve.specs.declared.Run.{Run}
 use Rattle.curve.specs.declared.Curve.{Curve}
 
--- "power at the fastest 0 to 2,000,000 microwatts"
+-- 02, Req 02: "Power at the fastest may be up to 20,000,000"
 abbrev pub powerMax : ℕ
-powerMax = 2000000
+powerMax = 20000000
 
 -- a place that holds no run
 abbrev pub noRun : Run

@@ -298,7 +298,7 @@ module _ (b : Board) (w : WellFormed b) where
   pub written-read : designOf (fileOf b) ≡ got b (length (fileOf b))
   written-read = reads-back (fileOf b) (stands-front (fileOf b))
 
-  -- ---- "At most 1,926 bytes."
+  -- ---- 02, Req 02: "The longest design file is 1,990 bytes"
   links-size : length (linksBytes b (b .links)) ≤ 2 * b .links
   unfolding linksBytes
   links-size =
@@ -313,7 +313,7 @@ module _ (b : Board) (w : WellFormed b) where
   unfolding partsBytes
   parts-size = row-size (λ p. curveBytes (curveAt b p)) (19 + groups) (b .parts) (λ i h. curve-size-le (curveAt b i) (w .curves i h))
 
-  pub file-size-le : length (fileOf b) ≤ 1926
+  pub file-size-le : length (fileOf b) ≤ 1990
   unfolding fileOf headBytes bodyBytes linkedBytes
   file-size-le =
       let d = encode (b .deadline .0) in

@@ -106,7 +106,7 @@ module _ (cs : List Curve) (ls : List Link) (many : length cs ≡ 64) (curves : 
   unfolding encode encodeIn pick
   ends-long = refl
 
-  file-long : length (fileOf longest) ≡ 1926
+  file-long : length (fileOf longest) ≡ 1990
   unfolding fileOf headBytes bodyBytes linkedBytes
   file-long =
       let c = partsBytes longest 64 in
@@ -130,8 +130,8 @@ every-curve p h = getD-replicate 64 p long noCurve h
 every-link : (l : ℕ) → l < 256 → getD (links-from 256 0) l noLink ≡ link-of l
 every-link l h = links-at 256 0 l h ∙ ap link-of (omega arith)
 
--- "At most 1,926 bytes", and no fewer will do
-pub longest-file : (b : Board) × WellFormed b × (length (fileOf b) ≡ 1926)
+-- "The longest design file is 1,990 bytes": some board has it
+pub longest-file : (b : Board) × WellFormed b × (length (fileOf b) ≡ 1990)
 longest-file =
     let cs = replicate 64 long in
     let ls = links-from 256 0 in

@@ -8,7 +8,7 @@ ghost use Rattle.groups.specs.declared.Read.the-variants.{Refused};
 ghost use Rattle.groups.specs.Number.{shortestEnd, limit, numberAt, encode, written, writtenTo};
 
 // The most groups of a number, and the least number that would need one more.
-pub const GROUPS: usize = 3;
+pub const GROUPS: usize = 4;
 
 pub const LIMIT: u32 = 1 << (7 * GROUPS);
 

@@ -107,9 +107,22 @@ fn form(n: u32) {
 }
 
 fn main() {
-    let boundaries: [u32; 8] = [0, 1, 127, 128, 16383, 16384, 2097151, 2097152];
+    let boundaries: [u32; 12] = [
+        0,
+        1,
+        127,
+        128,
+        16383,
+        16384,
+        2097151,
+        2097152,
+        20000000,
+        20000001,
+        268435455,
+        268435456,
+    ];
     let mut i: usize = 0;
-    while i < 8 {
+    while i < 12 {
         number(boundaries[i]);
         form(boundaries[i]);
         i = i + 1;
@@ -122,8 +135,10 @@ fn main() {
     read_places(b"\xff\xff\x00");
     read_places(b"\x80\x80\x80");
     read_places(b"\xff\xff\xff");
-    read_places(b"\x80\x80\x80\x00");
-    read_places(b"\x80\x80\x80\x01");
     read_places(b"\xff\xff\xff\xff");
-    read_places(b"\x05\x80\x01\xff\xff\x7f\x00\x80");
+    read_places(b"\x05\x80\x01\xff\xff\xff\x7f\x00\x80");
+    read_prefixes(b"\x80\x80\x80\x01");
+    read_prefixes(b"\xff\xff\xff\x7f");
+    read_prefixes(b"\x80\x80\x80\x80\x01");
+    read_prefixes(b"\x80\x80\x80\x00");
 }
