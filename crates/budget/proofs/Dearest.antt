@@ -80,7 +80,7 @@ module _ (cs : List Curve) (ls : List Link) (long : length cs ≡ 64) (is : (p :
   dear-held : (b : Board) × WellFormed b × (r : Budget) × Holds b r × (r .total ≡ totalMax)
   unfolding usable usableUnder view
   dear-held =
-      let held = holds-exactly-one dear dear-formed dear-timed (λ p h. omega (arith, fastest-one p h)) in
+      let held = holds-exactly-one dear dear-formed {T = usable dear} dear-timed (λ p h. omega (arith, fastest-one p h)) in
       (dear, dear-formed, held .0, held .1, draws-most (held .0) (held .1))
 
 -- "the greatest total 1,280,000,000": some board holds a budget that draws it

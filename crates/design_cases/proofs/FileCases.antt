@@ -59,6 +59,7 @@ pub D-written : fileOf D ≡ fileD
 D-written = read-written A fileD D 23 bytes-D D-read
 
 pub D-read-back : designOf A (fileOf D) ≡ got D (length (fileOf D))
+unfolding D
 D-read-back = written-read D (design-well-formed A fileD D 23 D-read)
 
 -- ---- a fault each, with its place

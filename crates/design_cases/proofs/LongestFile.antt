@@ -20,7 +20,7 @@ use Rattle.fields.specs.CurveFile.{runsBytes, curveBytes}
 use Rattle.board.specs.declared.Rule.the-variants.{A}
 use Rattle.board.specs.declared.Link.{Link}
 use Rattle.board.specs.declared.Board.{Board}
-use Rattle.board.specs.Board.{noCurve, noLink, curveAt, linkAt, order, WellFormed}
+use Rattle.board.specs.Board.{noCurve, noLink, curveAt, linkAt, delayOf, order, WellFormed}
 use Rattle.design.specs.Design.{linkBytes, partsBytes, linksBytes, linkedBytes, bodyBytes, headBytes, fileOf}
 use Rattle.design_cases.specs.Boards.{run, link}
 
@@ -73,6 +73,7 @@ module _ (cs : List Curve) (ls : List Link) (many : length cs ≡ 64) (curves : 
   longest = record { rule = A; deadline = record { 0 = 4095 }; parts = 64; curve = cs; links = 256; link = ls }
 
   formed : WellFormed longest
+  unfolding delayOf
   formed = record {
     deadline-from = omega arith;
     deadline-to = omega arith;
