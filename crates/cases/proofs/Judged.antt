@@ -11,9 +11,9 @@ use Rattle.refusal.specs.declared.Answer.the-variants.{Done}
 use Rattle.refusal.specs.Refusal.{refusal, among}
 use Rattle.theory.specs.Graph.{Ranked}
 use Rattle.theory.specs.Budget as theory
-use Rattle.board.specs.declared.Rule.the-variants.{A}
 use Rattle.theory.proofs.TimedLaws.{possible}
 use Rattle.theory.proofs.Rounds.{round, timed-is}
+use Rattle.board.specs.declared.Rule.the-variants.{A}
 use Rattle.board.specs.declared.Board.{Board}
 use Rattle.board.specs.Board.{usable, view, WellFormed}
 use Rattle.board.specs.Leads.{LoopFree}

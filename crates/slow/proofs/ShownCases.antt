@@ -129,7 +129,7 @@ only-0 P a zero h = a
 only-0 P a (suc p) h = absurd (omega arith)
 
 pub slow-1 : SlowPath board1 5 (0 ∷ [])
-unfolding board1 usable usableUnder view arrive greatest
+unfolding board1 usable usableUnder view delayOf arrive greatest
 slow-1 = record {
   end = cells (5 ∷ []);
   part = 0;
