@@ -20,6 +20,11 @@ def run(**files):
         return subprocess.run([os.path.join(HERE, "run"), "boddivarn"], cwd=folder, capture_output=True, check=True).stdout.decode("ascii")
 
 
+def number(n):
+    """A number in groups of seven bits, lowest first."""
+    return bytes([n]) if n < 128 else bytes([n % 128 + 128]) + number(n // 128)
+
+
 def labels(names):
     """The four labels that the table shows for a name sheet."""
     lines = run(board=K, orders=ORDERS, names=names).split("\n")
@@ -53,6 +58,50 @@ class Program(unittest.TestCase):
             out = run(board=K, orders=ORDERS + rest, names=NAMES)
             self.assertEqual(out.split("\n")[1], line)
             self.assertTrue(out.endswith("orders 3 taken 1 refused\n"))
+
+
+class Groups(unittest.TestCase):
+    """Numbers of four groups: refusals 1, 2 and 4 with their places (02, Req 02)."""
+
+    # version, deadline, parts; fastest, power, runs, length, saving; fastest, power, runs; links, from, to: a byte each
+    FIELDS = [1, 10, 2, 2, 100, 1, 2, 20, 1, 0, 0, 1, 0, 1]
+    POWERS = [4, 9]
+
+    def load(self, place, form, rest=True):
+        return run(board=bytes(self.FIELDS[:place]) + form + bytes(self.FIELDS[place + 1:] if rest else [])).split("\n")[0]
+
+    def test_every_field_keeps_its_range(self):
+        for place in range(len(self.FIELDS)):
+            for n in (2097151, 2097152):
+                expected = "part label start delay end power" if place in self.POWERS else f"refused {4 if place else 3} {place}"
+                self.assertEqual(self.load(place, number(n)), expected, (place, n))
+
+    def test_the_greatest_power(self):
+        self.assertEqual(self.load(4, number(20000000)), "part label start delay end power")
+        self.assertEqual(self.load(4, number(20000001)), "refused 4 4")
+        out = run(board=K, orders=b"\x04\x03\x04" + number(20000000) + b"\0")
+        self.assertIn("3 - 4 4 8 20000000\n", out)
+        out = run(board=K, orders=b"\x04\x03\x04" + number(20000001) + b"\0")
+        self.assertTrue(out.startswith("stopped 4 3\n"))
+
+    def test_forms_cut_after_every_byte(self):
+        for form, whole in [("80808001", None), ("FFFFFF7F", "refused 4 4"), ("80808080", "refused 2 4"), ("80808000", "refused 2 4")]:
+            form = bytes.fromhex(form)
+            for length in range(4):
+                self.assertEqual(self.load(4, form[:length], rest=False), f"refused 1 {4 + length}")
+            self.assertEqual(self.load(4, form, rest=False), whole or "refused 1 8")
+            self.assertEqual(self.load(4, form), whole or "part label start delay end power")
+
+    def test_the_greatest_total(self):
+        part = b"\x01" + number(20000000) + b"\0"
+        self.assertIn("\ntotal 1280000000\n", run(board=b"\x01\x01\x40" + part * 64 + b"\0"))
+
+    def test_the_longest_file(self):
+        part = number(1023) + number(20000000) + b"\x04" + b"".join(number(255) + number(saving) for saving in (1000, 999, 998, 997))
+        links = [(f, t) for f in range(8) for t in range(32, 64)]
+        file = b"\x01" + number(4095) + b"\x40" + part * 64 + number(256) + b"".join(bytes(link) for link in links)
+        self.assertEqual(len(file), 1990)
+        self.assertTrue(run(board=file).startswith("part label"))
 
 
 class Labels(unittest.TestCase):

@@ -8,7 +8,7 @@ pub const MOST_LINKS: usize = 256;
 pub const MOST_RUNS: usize = 4;
 pub const MOST_DEADLINE: u32 = 4_095;
 pub const MOST_FASTEST: u32 = 1_023;
-pub const MOST_POWER: u32 = 2_000_000;
+pub const MOST_POWER: u32 = 20_000_000;
 pub const MOST_LENGTH: u32 = 255;
 pub const MOST_SAVING: u32 = 1_000;
 

@@ -13,10 +13,11 @@ use crate::rng::Rng;
 const LONGEST_FILE: usize = 2_048;
 const LONGEST_STREAM: usize = 65_536;
 
-/// Good design files, each followed by damaged ones made from it: a short
-/// file in every way of `damage::sweep`, a long one in some ways.
+/// A small file at every edge of its fields, then good design files, each
+/// followed by damaged ones made from it: a short file in every way of
+/// `damage::sweep`, a long one in some ways.
 pub fn files(count: usize, rng: &mut Rng) -> Vec<Vec<u8>> {
-    let mut records = Vec::new();
+    let mut records = damage::edges(&boards::with_every_field());
     while records.len() < count {
         let board = boards::board(rng);
         let file = write_design(&board);

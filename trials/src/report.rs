@@ -83,8 +83,8 @@ fn inspect_step(text: &mut String, count: usize, step: &Step) {
 fn inspect_held(text: &mut String, desk: &Desk, held: &Held) {
     line(text, format_args!("held 1"));
     line(text, format_args!("deadline {}", held.board.deadline));
-    let mut buffer = [0; 1_926];
-    let length = desk.write(&mut buffer).expect("the longest file has 1,926 bytes");
+    let mut buffer = [0; 1_990];
+    let length = desk.write(&mut buffer).expect("the longest file has 1,990 bytes");
     line(text, format_args!("file {}", hex(&buffer[..length])));
     inspect_budget(text, &held.board, &held.budget);
     for &(from, to) in &held.board.links {

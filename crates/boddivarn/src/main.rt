@@ -110,7 +110,7 @@ fn print_table(d: Desk, names: &[u8]) {
         print_part(d, p, names);
         p = p + 1;
     }
-    console::number(b"total ", whole.total);
+    console::number(b"total ", whole.total.0);
     console::end_line();
 }
 

@@ -25,7 +25,13 @@ use Rattle.board.specs.declared.Board.{Board}
 use Rattle.board.specs.Board.{curveAt}
 use Rattle.budget.specs.declared.Budget.{Budget}
 use Rattle.budget.specs.declared.Total.{Total}
-use Rattle.budget.specs.Made.{drawnOf, delaysOf, powersOf, totalOf, budgetOf}
+use Rattle.budget.specs.Made.{noBudget, drawnOf, delaysOf, powersOf, totalOf, budgetOf}
+
+-- ---- no_budget
+pub none-made : (d : List Ticks) (w : List Microwatts) → d ≡ table 64 (λ p. noTicks) → w ≡ table 64 (λ p. noPower) →
+    record { start = d; delay = d; end = d; power = w; total = record { 0 = 0 } } ≡ noBudget
+unfolding noBudget
+none-made d w ed ew = rw (ed, ew)
 
 -- ---- power_of
 module _ (c : Curve) (d : ℕ) where

@@ -2,6 +2,7 @@
 -- Assumes nothing.
 use mathlib.Core.List.{List}
 use Prim.Native.Nat.{ℕ, min, _-_}
+use Rattle.base.specs.Table.{table}
 use Rattle.theory.specs.Sum.{sum}
 use Rattle.theory.specs.Graph.{Times}
 use Rattle.curve.specs.declared.Ticks.{Ticks}
@@ -10,7 +11,7 @@ use Rattle.curve.specs.declared.Curve.{Curve}
 use Rattle.curve.specs.declared.Power.{Power}
 use Rattle.curve.specs.declared.Power.the-variants.{At, Refused}
 use Rattle.curve.specs.Answers.{powerAtOf}
-use Rattle.curve.specs.Rows.{ticksAt, powerAt, ticksRow, powersRow}
+use Rattle.curve.specs.Rows.{noTicks, noPower, ticksAt, powerAt, ticksRow, powersRow}
 use Rattle.board.specs.declared.Board.{Board}
 use Rattle.board.specs.Board.{curveAt, view}
 use Rattle.budget.specs.declared.Budget.{Budget}
@@ -44,6 +45,16 @@ budgetOf b start end =
       power = powersOf b delay;
       total = record { 0 = totalOf (min (b .parts) 64) (powersOf b delay) };
     }
+
+-- no budget
+unfoldable pub noBudget : Budget
+noBudget = record {
+  start = table 64 (λ p. noTicks);
+  delay = table 64 (λ p. noTicks);
+  end = table 64 (λ p. noTicks);
+  power = table 64 (λ p. noPower);
+  total = record { 0 = 0 };
+}
 
 -- a budget's times, with ticks counted from the fastest delay
 unfoldable pub timesIn : Board → Budget → Times

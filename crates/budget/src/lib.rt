@@ -10,7 +10,7 @@ use curve::no_powers;
 use curve::no_ticks;
 ghost use mathlib.Core.Path.{_≡_};
 ghost use Prim.Native.Nat.{_+_, _≤_};
-ghost use Rattle.budget.specs.Made.{drawnOf, delaysOf, powersOf, totalOf, budgetOf};
+ghost use Rattle.budget.specs.Made.{noBudget, drawnOf, delaysOf, powersOf, totalOf, budgetOf};
 
 // The power of all parts together, in microwatts.
 pub struct Total(pub u64);
@@ -22,6 +22,21 @@ pub struct Budget {
     pub end: [Ticks; 64],
     pub power: [Microwatts; 64],
     pub total: Total,
+}
+
+// No budget: nothing at any place.
+pub fn no_budget() -> Budget
+    ensures { λ r. ⌜ r ≡ noBudget ⌝ }
+{
+    let none = no_ticks();
+    let power = no_powers();
+    Budget {
+        start: none,
+        delay: none,
+        end: none,
+        power: power,
+        total: Total(0),
+    }
 }
 
 // The power at a delay; none at one that the curve does not have.
@@ -73,7 +88,7 @@ fn powers(b: Board, delay: [Ticks; 64]) -> [Microwatts; 64]
 }
 
 // The sum of the powers.
-fn total(n: usize, power: [Microwatts; 64]) -> Total
+fn total_of(n: usize, power: [Microwatts; 64]) -> Total
     requires { ⌜ n ≤ 64 ⌝ }
     ensures { λ r. ⌜ r .0 ≡ totalOf n power ⌝ }
 {
@@ -93,7 +108,7 @@ pub fn budget_of(b: Board, start: [Ticks; 64], end: [Ticks; 64]) -> Budget
     let n = lesser(b.parts, 64);
     let delay = delays(n, start, end);
     let power = powers(b, delay);
-    let all = total(n, power);
+    let all = total_of(n, power);
     Budget {
         start: start,
         delay: delay,

@@ -16,10 +16,8 @@ use Rattle.design.proofs.DesignLaws.{written-read}
 use Rattle.desk.specs.declared.Tally.{Tally}
 use Rattle.desk.specs.declared.Desk.{Desk}
 use Rattle.desk.specs.declared.Loaded.{Loaded}
-use Rattle.solver.specs.Verdict.{Verdict}
 use Rattle.desk.specs.Held.{Holding}
-use Rattle.desk.specs.Load.{noTally, LoadJudged, LoadParsed, LoadSaid}
-use Rattle.desk.specs.Load as load
+use Rattle.desk.specs.Load.{noTally, tallyLoaded, LoadJudged, LoadParsed, LoadSaid}
 use Rattle.solver.proofs.VerdictLaws.{verdict-done}
 use Rattle.desk.proofs.Tried.{never}
 use Rattle.demands.specs.Boards.{Plannable}
@@ -28,12 +26,15 @@ use Rattle.demands.proofs.Steps.{kept-plannable}
 
 module _ (d : Desk) (t : Tally) (r : Loaded) where
   judged-accepted : (b : Board) → r .answer ≡ Done → LoadJudged b d t r → Accepted b r
-  judged-accepted b done (load.refused v is) = never (sym (ap (λ (x : Loaded). x .answer) is) ∙ done)
-  judged-accepted b done (load.accepted v a p bo h ta) = record { done = a; board = bo; holding = h; tally = ta }
+  judged-accepted b done j = record {
+    done = done;
+    board = j .judged .board done;
+    holding = j .judged .holding done;
+    tally = j .tally ∙ ap (λ (a : Answer). tallyLoaded a t) done;
+  }
 
   judged-done : (b : Board) → Plannable b → LoadJudged b d t r → r .answer ≡ Done
-  judged-done b ok (load.refused v is) = never (verdict-done b (ok .formed) (ok .free) (ok .budget) v)
-  judged-done b ok (load.accepted v a p bo h ta) = a
+  judged-done b ok j = verdict-done b (ok .formed) (ok .free) (ok .budget) (j .judged .verdict)
 
   -- where no refusal applies, the load is accepted;
   pub load-accepts : (s : List ℕ) (b : Board) → Describes s b → Plannable b → LoadSaid d s t r → Accepted b r

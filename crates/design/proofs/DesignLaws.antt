@@ -12,7 +12,7 @@ use lib.ListN.{length, getD, length-append}
 use borrow.Author.Tests.{eqb-true, eqb-false, ltb-false, eq-eqb, ne-eqb, le-ltb}
 use Rattle.base.specs.Pick.{pick}
 use Rattle.groups.specs.declared.Read.the-variants.{Number}
-use Rattle.groups.specs.Number.{numberAt, encode}
+use Rattle.groups.specs.Number.{groups, numberAt, encode}
 use Rattle.groups.proofs.RoundTrip.{Bytes}
 use Rattle.curve.specs.declared.Curve.{Curve}
 use Rattle.curve.specs.Curve.{Good}
@@ -317,7 +317,7 @@ module _ (b : Board) (w : WellFormed b) where
   pub written-read : designOf (b .rule) (fileOf b) ≡ got b (length (fileOf b))
   written-read = reads-back (fileOf b) (stands-front (fileOf b))
 
-  -- ---- "At most 1,926 bytes."
+  -- ---- 02, Req 02: "The longest design file is 1,990 bytes"
   links-size : length (linksBytes b (b .links)) ≤ 2 * b .links
   unfolding linksBytes
   links-size =
@@ -328,11 +328,11 @@ module _ (b : Board) (w : WellFormed b) where
       let few = w .parts-to in
       omega (arith, length-append (encode (linkAt b i .from)) (encode (linkAt b i .to)), size-to-1 (linkAt b i .from) (omega arith), size-to-1 (linkAt b i .to) (omega arith)))
 
-  parts-size : length (partsBytes b (b .parts)) ≤ 22 * b .parts
+  parts-size : length (partsBytes b (b .parts)) ≤ (19 + groups) * b .parts
   unfolding partsBytes
-  parts-size = row-size (λ p. curveBytes (curveAt b p)) 22 (b .parts) (λ i h. curve-size-le (curveAt b i) (w .curves i h))
+  parts-size = row-size (λ p. curveBytes (curveAt b p)) (19 + groups) (b .parts) (λ i h. curve-size-le (curveAt b i) (w .curves i h))
 
-  pub file-size-le : length (fileOf b) ≤ 1926
+  pub file-size-le : length (fileOf b) ≤ 1990
   unfolding fileOf headBytes bodyBytes linkedBytes
   file-size-le =
       let d = encode (b .deadline .0) in

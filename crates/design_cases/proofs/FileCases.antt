@@ -59,6 +59,7 @@ pub D-written : fileOf D ≡ fileD
 D-written = read-written A fileD D 23 bytes-D D-read
 
 pub D-read-back : designOf A (fileOf D) ≡ got D (length (fileOf D))
+unfolding D
 D-read-back = written-read D (design-well-formed A fileD D 23 D-read)
 
 -- ---- a fault each, with its place
@@ -67,11 +68,17 @@ pub record Faults : Type 0 where
   pub cut-short : designOf A (1 ∷ 10 ∷ 4 ∷ []) ≡ stop CutShort 3
   -- 2: `80 00` for a deadline; place: its first byte
   pub not-shortest : designOf A (1 ∷ 128 ∷ 0 ∷ []) ≡ stop NotShortest 1
+  -- 02, Req 02: "1 is for under four groups read, 2 for a fourth that promises a fifth"
+  pub three-groups-cut : designOf A (1 ∷ 128 ∷ 128 ∷ 128 ∷ []) ≡ stop CutShort 4
+  pub fifth-promised : designOf A (1 ∷ 128 ∷ 128 ∷ 128 ∷ 128 ∷ []) ≡ stop NotShortest 1
   -- 3
   pub wrong-version : designOf A (2 ∷ 10 ∷ []) ≡ stop WrongVersion 0
   -- 4: no parts; a link to a part that is not there
   pub no-parts : designOf A (1 ∷ 10 ∷ 0 ∷ []) ≡ stop OutOfRange 2
   pub no-such-end : designOf A (1 ∷ 10 ∷ 1 ∷ 1 ∷ 0 ∷ 0 ∷ 1 ∷ 0 ∷ 1 ∷ []) ≡ stop OutOfRange 8
+  -- "Every other field keeps its own range": 2,097,152 for a deadline; 20,000,001 for a power
+  pub four-groups-of-ticks : designOf A (1 ∷ 128 ∷ 128 ∷ 128 ∷ 1 ∷ []) ≡ stop OutOfRange 1
+  pub power-past-its-range : designOf A (1 ∷ 10 ∷ 1 ∷ 1 ∷ 129 ∷ 218 ∷ 196 ∷ 9 ∷ []) ≡ stop OutOfRange 4
   -- 5: "Two runs at equal saving give 5"; place: the second saving
   pub equal-savings : designOf A (1 ∷ 10 ∷ 1 ∷ 2 ∷ 100 ∷ 2 ∷ 2 ∷ 20 ∷ 1 ∷ 20 ∷ 0 ∷ []) ≡ stop SavingNotBelow 9
   -- 6: two ticks at 20 and a power of 39; place: the power
@@ -89,9 +96,13 @@ unfolding designOf versionAt headFrom bodyFrom linkedFrom partsFrom partFrom lin
 faults = record {
   cut-short = refl;
   not-shortest = refl;
+  three-groups-cut = refl;
+  fifth-promised = refl;
   wrong-version = refl;
   no-parts = refl;
   no-such-end = refl;
+  four-groups-of-ticks = refl;
+  power-past-its-range = refl;
   equal-savings = refl;
   power-below = refl;
   self-link = refl;

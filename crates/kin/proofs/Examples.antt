@@ -71,7 +71,7 @@ module _ (b : Board) (links : b .links ≡ 3) (l0 : linkAt b 0 ≡ link 0 1) (l1
       parent = λ r q h c. by-link (λ (x y : ℕ). bit 10 y ≡ 1 → bit 1 x ≡ 1) (λ g. refl) (λ g. refl) (λ g. absurd (omega arith)) r q c h;
     }
 
-    kin-is : KinOf (Critical b held) 0 (record { parents = 1; children = 10 })
+    pub kin-is : KinOf (Critical b held) 0 (record { parents = 1; children = 10 })
     kin-is = record {
       parents-fit = lit< tt;
       children-fit = lit< tt;

@@ -231,5 +231,5 @@ module _ (s : List ℕ) (n : ℕ) where
   pub label-refused : (labelAnswer s n ≡ refusal 20 0) ↔ (labelOf s n ≡ [])
   label-refused = (
     refused-by (goodLabel (lineOf s n)) refl,
-    λ none. empty-by (goodLabel (lineOf s n)) refl (ap length none)
+    λ none. empty-by (goodLabel (lineOf s n)) refl (ap length none),
   )

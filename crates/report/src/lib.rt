@@ -130,7 +130,7 @@ fn print_held(d: Desk) {
     print_file(d);
     console::end_line();
     print_parts(d);
-    console::number(b"total ", whole.total);
+    console::number(b"total ", whole.total.0);
     console::end_line();
     print_links(d);
     print_sets(d);

@@ -15,7 +15,7 @@ use Rattle.board.specs.declared.Link.{Link}
 use Rattle.board.specs.declared.Board.{Board}
 use Rattle.board.specs.Board.{plainLink, noLink, blankCurve, usableUnder, usable, delayOf, view}
 use Rattle.slow.specs.declared.ShownPath.{ShownPath}
-use Rattle.slow.specs.Slow.{First, LastPart, StepBack, first, next, Loopless, FastestEnds, shown, SlowOf, exceeded}
+use Rattle.slow.specs.Slow.{First, LastPart, StepBack, first, next, Loopless, FastestEnds, SlowPath, shown, SlowOf, exceeded}
 use Rattle.slow.proofs.SlowLaws.{slow-once}
 
 abbrev run : ℕ → ℕ → Run
@@ -98,23 +98,20 @@ first-0 : First (view boardK) 0
 unfolding boardK view delayOf
 first-0 = record { none = below-4 _ (λ q. omega arith) (λ q. omega arith) (λ q. omega arith) (λ q. omega arith) }
 
-shownK : SlowOf boardK (shown 10 (0 ∷ 3 ∷ 1 ∷ 2 ∷ []))
+pub slow-K : SlowPath boardK 10 (0 ∷ 3 ∷ 1 ∷ 2 ∷ [])
 unfolding boardK usable usableUnder
-shownK =
-    exceeded
-    (record {
-      end = endsK;
-      part = 2;
-      ends = fastestK;
-      last = lastK;
-      walked = next step-2 (next step-1 (next step-3 (first first-0)));
-      place = refl;
-      over = omega arith;
-    })
-    refl
+slow-K = record {
+  end = endsK;
+  part = 2;
+  ends = fastestK;
+  last = lastK;
+  walked = next step-2 (next step-1 (next step-3 (first first-0)));
+  place = refl;
+  over = omega arith;
+}
 
 pub case-9 : Loopless boardK → (r : ShownPath) → SlowOf boardK r → r ≡ shown 10 (0 ∷ 3 ∷ 1 ∷ 2 ∷ [])
-case-9 ok r s = slow-once boardK ok r (shown 10 (0 ∷ 3 ∷ 1 ∷ 2 ∷ [])) s shownK
+case-9 ok r s = slow-once boardK ok r (shown 10 (0 ∷ 3 ∷ 1 ∷ 2 ∷ [])) s (exceeded slow-K refl)
 
 -- ---- case (7)
 unfoldable pub board1 : Board
@@ -131,20 +128,17 @@ only-0 : (P : ℕ → Type 0) → P 0 → (p : ℕ) → p < 1 → P p
 only-0 P a zero h = a
 only-0 P a (suc p) h = absurd (omega arith)
 
-shown1 : SlowOf board1 (shown 5 (0 ∷ []))
-unfolding board1 usable usableUnder view arrive greatest
-shown1 =
-    exceeded
-    (record {
-      end = cells (5 ∷ []);
-      part = 0;
-      ends = record { start = λ p. 0; timed = record { starts = only-0 _ refl; ends = only-0 _ refl } };
-      last = record { here = omega arith; greatest = only-0 _ (omega arith); lowest = only-0 _ (λ q. omega arith) };
-      walked = first (record { none = λ l h q. omega arith });
-      place = refl;
-      over = omega arith;
-    })
-    refl
+pub slow-1 : SlowPath board1 5 (0 ∷ [])
+unfolding board1 usable usableUnder view delayOf arrive greatest
+slow-1 = record {
+  end = cells (5 ∷ []);
+  part = 0;
+  ends = record { start = λ p. 0; timed = record { starts = only-0 _ refl; ends = only-0 _ refl } };
+  last = record { here = omega arith; greatest = only-0 _ (omega arith); lowest = only-0 _ (λ q. omega arith) };
+  walked = first (record { none = λ l h q. omega arith });
+  place = refl;
+  over = omega arith;
+}
 
 pub case-7 : Loopless board1 → (r : ShownPath) → SlowOf board1 r → r ≡ shown 5 (0 ∷ [])
-case-7 ok r s = slow-once board1 ok r (shown 5 (0 ∷ [])) s shown1
+case-7 ok r s = slow-once board1 ok r (shown 5 (0 ∷ [])) s (exceeded slow-1 refl)

@@ -2,9 +2,11 @@
 -- all at their slowest, are two cases.
 -- Assumes nothing.
 use mathlib.Core.Path.{_≡_, sym, ap, _∙_}
+use mathlib.Core.Logic.{⊎-elim}
 use mathlib.Core.List.{List}
 use Prim.Native.Nat.{ℕ, zero, suc, _+_, _*_, _≤_, _<_}
 use native.Mathlib.Omega.{arith}
+use Rattle.base.proofs.Cases.{lt-or-le}
 use Rattle.theory.specs.Budget.{arrive, Timed}
 use Rattle.theory.proofs.ArriveLaws.{arrive-le, arrive-ext}
 use Rattle.theory.proofs.TimedLaws.{timed-once}
@@ -94,9 +96,11 @@ module _ (b : Board) (ok : Loopless b) where
       ends = λ p h. omega (arith, start-is p h, end-is p h, t .timed .ends p h);
     }
 
-    pub times-to : (p : ℕ) → p < b .parts → ticksAt (r .end) p ≤ 149370
+    pub times-to : (p : ℕ) → ticksAt (r .end) p ≤ 149370
     unfolding view
-    times-to p h = omega (arith, end-is p h, end-to 65 p h (ok .ranked .below p h))
+    times-to p =
+        ⊎-elim (λ (h : p < b .parts). omega (arith, end-is p h, end-to 65 p h (ok .ranked .below p h)))
+        (λ (h : b .parts ≤ p). omega (arith, t .end-blank p h)) (lt-or-le p (b .parts))
 
   -- ---- all at fastest
   pub fastest-at : (p : ℕ) → p < b .parts → ticksAt (fastestsOf b) p ≡ view b .fastest p

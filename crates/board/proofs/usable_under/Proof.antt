@@ -5,23 +5,18 @@ use Rattle.board.proofs.usable_under.Tie as tie
 use Rattle.board.proofs.usable_under.Reads as reads
 use Rattle.board.proofs.usable_under.Lts as lts
 
--- src/lib.rt:113:20
 enum-told : tie.Need-enum-told
 enum-told c = search needs
 
--- src/lib.rt:114:39
 enum-told-2 : tie.Need-enum-told-2
 enum-told-2 c = search needs
 
--- src/lib.rt:114:26
 sub-t5 : tie.Need-sub-t5
 sub-t5 c = search needs
 
--- src/lib.rt:109:1
 returns : tie.Need-returns
 returns c = search (rule-a)
 
--- src/lib.rt:109:1
 returns-2 : tie.Need-returns-2
 returns-2 c = search (rule-b)
 
