@@ -8,8 +8,9 @@ use native.Mathlib.Omega.{arith}
 use Rattle.refusal.specs.declared.Answer.{Answer}
 use Rattle.refusal.specs.declared.Answer.the-variants.{Done}
 use Rattle.refusal.specs.Refusal.{refusal}
+use Rattle.board.specs.declared.Rule.{Rule}
 use Rattle.board.specs.declared.Board.{Board}
-use Rattle.board.specs.Board.{WellFormed}
+use Rattle.board.specs.Board.{WellFormed, ruleNumber}
 use Rattle.board.specs.Leads.{LoopFree}
 use Rattle.cone.proofs.Cones.{path-from}
 use Rattle.slow.specs.declared.Trail.{Trail}
@@ -35,6 +36,7 @@ use Rattle.demands.specs.Loads.{Describes}
 use Rattle.demands.specs.Orders.{Reads}
 use Rattle.demands.specs.Slow.{SlowShown, TimeRefusal}
 use Rattle.demands.proofs.Once.{judged-well}
+use Rattle.demands.proofs.LoadLaws.{said-read}
 
 module _ (b : Board) (w : WellFormed b) (free : LoopFree b) where
   slow-shown : {ticks : ℕ} {path : List ℕ} → SlowPath b ticks path → SlowShown b (refusal 10 ticks) (trailOf path)
@@ -63,11 +65,11 @@ module _ (b : Board) (w : WellFormed b) (free : LoopFree b) where
 
 -- of a load whose file describes a board without a loop
 pub load-slow :
-    (d : Desk) (t : Tally) (r : Loaded) (s : List ℕ) (b : Board) → Describes s b → LoopFree b → LoadSaid d s t r →
+    (d : Desk) (t : Tally) (r : Loaded) (named : Rule) (s : List ℕ) (b : Board) → Describes named s b → LoopFree b → LoadSaid d (ruleNumber named) s t r →
     TimeRefusal b (r .answer) (r .path)
-load-slow d t r s b file free said =
-    let j : LoadJudged b d t r = subst (λ (p : Parse Board). LoadParsed p d t r) (file .read) (said .parsed) in
-    judged-time b (design-well-formed s b (file .size) (file .read)) free (j .judged)
+load-slow d t r named s b file free said =
+    let j : LoadJudged b d t r = subst (λ (p : Parse Board). LoadParsed p d t r) (file .read) (said-read d t r named s said .parsed) in
+    judged-time b (design-well-formed named s b (file .size) (file .read)) free (j .judged)
 
 -- of an order that none of 11, 18, 17, 7, 13, 14 and 15 meets, where the board as it would be has no loop
 pub order-slow :
