@@ -2,6 +2,7 @@
 //! refusal often enough to be tried.
 
 use std::collections::{BTreeMap, BTreeSet};
+use trials::board::Rule;
 use trials::calls::{script, Call};
 use trials::file::{read_design, read_order};
 use trials::make::{self, advice, boards::*};
@@ -74,7 +75,7 @@ fn boards_of_every_size_with_links_both_ways() {
 fn files_meet_every_refusal_of_reading() {
     let mut counts = Counts::new();
     for file in make::files(10_000, &mut Rng::new(13)) {
-        *counts.entry(read_design(&file).err().map_or(0, |refusal| refusal.number)).or_default() += 1;
+        *counts.entry(read_design(Rule::A, &file).err().map_or(0, |refusal| refusal.number)).or_default() += 1;
     }
     assert_met(&counts, &[0, 1, 2, 3, 4, 5, 6, 7, 8], 100);
 }
@@ -113,14 +114,15 @@ fn sessions_meet_every_refusal_of_orders() {
     assert_met(&counts, &[0], 2_000);
     assert_met(&counts, &[7, 9, 10, 11, 13, 14, 15, 17, 18], 10);
     assert_met(&counts, &[2, 4, 12], 5);
-    assert_met(&answers(&text, "load"), &[0, 1, 9, 10], 5);
+    assert_met(&answers(&text, "load"), &[0, 1, 9, 10, 22], 5);
+    assert!(text.contains("\nrule A\n") && text.contains("\nrule B\n"));
     assert!(!text.contains("stopped"));
 }
 
 /// Loads that are refused while a board is held, on a tally that is not 0.
 #[test]
 fn loads_on_a_held_board() {
-    let text = played(&script(&make::loads(600, &mut Rng::new(17))));
+    let text = played(&script(&make::loads(2_000, &mut Rng::new(17))));
     let lines: Vec<&str> = text.lines().collect();
     let kept = |three: &&[&str]| {
         three[0].starts_with("load no ") && !three[0].starts_with("load no 0") && three[2] == "held 1"
@@ -169,6 +171,6 @@ fn advice_of_every_kind() {
     assert!(other[3] > 150, "{other:?}");
     let records = make::advised(400, rng);
     assert_eq!(records.len(), 800);
-    let refused = |file: &[u8]| read_design(file).unwrap().check_loops_and_times().err();
+    let refused = |file: &[u8]| read_design(Rule::A, file).unwrap().check_loops_and_times().err();
     assert!(records.chunks(2).any(|pair| refused(&pair[0]).is_some_and(|refusal| refusal.number == 9)));
 }

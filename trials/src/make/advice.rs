@@ -3,7 +3,7 @@
 //! is the same. Any bytes are advice, so most of it here is bad.
 
 use super::orders;
-use crate::board::Board;
+use crate::board::{Board, RULE_A};
 use crate::desk::{Desk, Tally};
 use crate::file::{write_design, write_order};
 use crate::rng::Rng;
@@ -53,7 +53,7 @@ fn flow_of(board: &Board) -> Vec<u32> {
 /// A board that is one order away from this one.
 fn stale(board: &Board, rng: &mut Rng) -> Option<Board> {
     let (mut desk, mut tally) = (Desk::default(), Tally::default());
-    desk.load(&write_design(board), &mut tally).ok()?;
+    desk.load(RULE_A, &write_design(board), &mut tally).ok()?;
     (0..8).find(|_| desk.order(&write_order(&orders::order(board, rng)), &mut tally).verdict.is_ok())?;
     desk.held().ok().map(|held| held.board.clone())
 }
