@@ -5,8 +5,9 @@ use mathlib.Core.Path.{_≡_, refl, sym, subst, _∙_}
 use mathlib.Core.List.{List}
 use Prim.Native.Nat.{ℕ}
 use native.Mathlib.Omega.{arith}
+use Rattle.refusal.specs.declared.Why.the-variants.{Looped, TooSlow}
 use Rattle.refusal.specs.declared.Answer.{Answer}
-use Rattle.refusal.specs.declared.Answer.the-variants.{Done}
+use Rattle.refusal.specs.declared.Answer.the-variants.{Done, Refused}
 use Rattle.refusal.specs.Refusal.{refusal}
 use Rattle.board.specs.declared.Board.{Board}
 use Rattle.board.specs.Board.{WellFormed}
@@ -36,6 +37,9 @@ use Rattle.demands.specs.Orders.{Reads}
 use Rattle.demands.specs.Slow.{SlowShown, TimeRefusal}
 use Rattle.demands.proofs.Once.{judged-well}
 
+loop-not-slow : {A : Type 0} {p q : ℕ} → Refused Looped p ≡ Refused TooSlow q → A
+loop-not-slow e = absurd (let z : _≡_ {A = ℕ} 0 1 = cc in omega arith)
+
 module _ (b : Board) (w : WellFormed b) (free : LoopFree b) where
   slow-shown : {ticks : ℕ} {path : List ℕ} → SlowPath b ticks path → SlowShown b (refusal 10 ticks) (trailOf path)
   slow-shown {ticks} {path} x = record {
@@ -50,7 +54,7 @@ module _ (b : Board) (w : WellFormed b) (free : LoopFree b) where
   verdict-time : {a : Answer} {path : List ℕ} → Verdict b a path → TimeRefusal b a (trailOf path)
   verdict-time (looped {p = p} x) = record {
     given = λ way. absurd (free .none p (path-from b w (x .on)) (x .on));
-    only = λ place e. absurd (let z : _≡_ {A = ℕ} 0 1 = cc in omega arith);
+    only = λ place e. loop-not-slow e;
   }
   verdict-time (slow f x) = record { given = λ way. slow-shown x; only = λ place e. slow-shown x }
   verdict-time (fine f k) = record {
