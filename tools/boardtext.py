@@ -26,11 +26,11 @@ import sys
 LIMITS = {  # 01, The board
     "deadline": (1, 4095),
     "fastest": (1, 1023),
-    "power": (0, 2_000_000),
+    "power": (0, 20_000_000),
     "length": (1, 255),
     "saving": (1, 1000),
 }
-MOST_PARTS, MOST_LINKS, MOST_RUNS, GROUPS = 64, 256, 4, 3
+MOST_PARTS, MOST_LINKS, MOST_RUNS, GROUPS = 64, 256, 4, 4
 
 
 class TextError(Exception):

@@ -2,7 +2,7 @@
 import random
 import unittest
 
-from boardtext import TextError, encode, pack_board, pack_orders, unpack_board, unpack_orders
+from boardtext import Bytes, TextError, encode, pack_board, pack_orders, unpack_board, unpack_orders
 
 K_TEXT = """# board K of 01
 deadline 10
@@ -43,7 +43,7 @@ class Board(unittest.TestCase):
             ("part A fastest power 3\n", "b:1: fastest is not a number: 'power'"),
             ("part A fastest 1 power\n", "b:1: power is missing"),
             ("part A fastest 0 power 1\n", "b:1: fastest 0 is not from 1 to 1023"),
-            ("part A fastest 1 power 2000001\n", "b:1: power 2000001 is not from 0 to 2000000"),
+            ("part A fastest 1 power 20000001\n", "b:1: power 20000001 is not from 0 to 20000000"),
             ("part A fastest 1 power 1 runs\n", "b:1: no run follows 'runs'"),
             ("part A fastest 1 power 9 runs 1@\n", "b:1: saving is not a number: ''"),
             ("part A fastest 1 power 9 runs @1\n", "b:1: length is not a number: ''"),
@@ -90,13 +90,13 @@ class Board(unittest.TestCase):
                 savings = sorted(draw.sample(range(1, 1001), draw.randint(0, 4)), reverse=True)
                 runs = [(draw.randint(1, 255), saving) for saving in savings]
                 least = sum(length * saving for length, saving in runs)
-                text += f"part N{p} fastest {draw.randint(1, 1023)} power {draw.randint(least, 2000000)}"
+                text += f"part N{p} fastest {draw.randint(1, 1023)} power {draw.randint(least, 20000000)}"
                 text += (" runs " + " ".join(f"{l}@{s}" for l, s in runs) if runs else "") + "\n"
             pairs = {(draw.randrange(count), draw.randrange(count)) for _ in range(draw.randint(0, 256))}
             text += "".join(f"link N{f} N{t}\n" for f, t in sorted(pairs) if f != t)
             data, names = pack_board(text)
             self.assertEqual(unpack_board(data, names), (text, names))
-            self.assertLessEqual(len(data), 1926)
+            self.assertLessEqual(len(data), 1990)
 
 
 class Orders(unittest.TestCase):
@@ -107,7 +107,7 @@ class Orders(unittest.TestCase):
         self.assertEqual(unpack_orders(data, K_NAMES), text)
 
     def test_a_curve(self):
-        text = "curve BUF fastest 1023 power 2000000 runs 255@1000 1@1\n"
+        text = "curve BUF fastest 1023 power 20000000 runs 255@1000 1@1\n"
         self.assertEqual(unpack_orders(pack_orders(text, K_NAMES), K_NAMES), text)
 
     def test_errors(self):
@@ -129,8 +129,41 @@ class Orders(unittest.TestCase):
 
 class Numbers(unittest.TestCase):
     def test_groups(self):
-        for n, form in [(0, "00"), (127, "7f"), (128, "8001"), (16383, "ff7f"), (16384, "808001"), (2097151, "ffff7f")]:
+        for n, form in [
+            (0, "00"),
+            (127, "7f"),
+            (128, "8001"),
+            (16383, "ff7f"),
+            (16384, "808001"),
+            (2097151, "ffff7f"),
+            (2097152, "80808001"),
+            (20000000, "80dac409"),
+            (268435455, "ffffff7f"),
+        ]:
             self.assertEqual(encode(n).hex(), form)
+            self.assertEqual(Bytes(bytes.fromhex(form), "f").number("n", 0, n), n)
+
+    def test_groups_that_are_no_number(self):
+        for form, message in [
+            ("808080", "f: byte 3: the file ends within n"),
+            ("80808080", "f: byte 0: n has more than 4 groups"),
+            ("8080808001", "f: byte 0: n has more than 4 groups"),
+            ("80808000", "f: byte 0: n is not in its shortest form"),
+            ("80808001", "f: byte 0: n 2097152 is not from 0 to 9"),
+        ]:
+            with self.subTest(form=form), self.assertRaises(TextError) as raised:
+                Bytes(bytes.fromhex(form), "f").number("n", 0, 9)
+            self.assertEqual(str(raised.exception), message)
+
+    def test_powers(self):
+        for power, last in [(2097151, "ffff7f"), (2097152, "80808001"), (20000000, "80dac409")]:
+            text = f"deadline 1\npart A fastest 1 power {power}\n"
+            data, names = pack_board(text)
+            self.assertEqual(data.hex(), f"01010101{last}0000")
+            self.assertEqual(unpack_board(data, names), (text, names))
+        with self.assertRaises(TextError) as raised:
+            unpack_board(bytes.fromhex("0101010181dac4090000"), [])
+        self.assertEqual(str(raised.exception), "board.dat: byte 4: power 20000001 is not from 0 to 20000000")
 
 
 if __name__ == "__main__":

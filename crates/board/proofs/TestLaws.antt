@@ -128,6 +128,7 @@ module _ (b : Board) where
               from-in = λ l h. held-of b p₂ links l h (omega arith) .from-in;
               to-in = λ l h. held-of b p₂ links l h (omega arith) .to-in;
               apart = λ l h. held-of b p₂ links l h (omega arith) .apart;
+              plain = λ l h. held-of b p₂ links l h (omega arith) .plain;
               ascends = λ l h. ascends-of b p₂ links l h (omega arith);
               blank-curves = blank-curve-of b curves;
               blank-links = blank-of b p₂ links;

@@ -13,6 +13,7 @@ use Rattle.theory.specs.Graph.{Ranked}
 use Rattle.theory.specs.Budget as theory
 use Rattle.theory.proofs.TimedLaws.{possible}
 use Rattle.theory.proofs.Rounds.{round, timed-is}
+use Rattle.board.specs.declared.Rule.the-variants.{A}
 use Rattle.board.specs.declared.Board.{Board}
 use Rattle.board.specs.Board.{usable, view, WellFormed}
 use Rattle.board.specs.Leads.{LoopFree}
@@ -52,12 +53,12 @@ comes-then c f = record { result = c .result; said = c .said; only = λ r said. 
 
 -- ---- a board whose file reads back, and for which the test of delays passed
 pub record Known (b : Board) (delays : List ℕ) : Type 0 where
-  pub read : designOf (fileOf b) ≡ got b (length (fileOf b))
+  pub read : designOf A (fileOf b) ≡ got b (length (fileOf b))
   pub test : best (view b) (usable b) delays ≡ true
 
 module _ (b : Board) (delays : List ℕ) (k : Known b delays) where
   pub known-formed : WellFormed b
-  known-formed = design-well-formed (fileOf b) b (length (fileOf b)) (k .read)
+  known-formed = design-well-formed A (fileOf b) b (length (fileOf b)) (k .read)
 
   known-budget : theory.Budget (view b) (usable b) (timesBy (view b) delays)
   known-budget = best-budget (view b) (lawful b known-formed) (usable b) delays (k .test)
@@ -148,7 +149,7 @@ at-budget b delays k {d = d} a =
     (known-holds b delays k)
 
 -- ---- loads
-module _ (b : Board) (d : Desk) (t : Tally) (read : designOf (fileOf b) ≡ got b (length (fileOf b))) where
+module _ (b : Board) (d : Desk) (t : Tally) (read : designOf A (fileOf b) ≡ got b (length (fileOf b))) where
   load-judged : (r : Loaded) → LoadSaid d (fileOf b) t r → LoadJudged b d t r
   load-judged r said = subst (λ (p : Parse Board). LoadParsed p d t r) read (said .parsed)
 
@@ -174,7 +175,7 @@ module _ (b : Board) (delays : List ℕ) (k : Known b delays) (d : Desk) (t : Ta
     only = λ r said. accepted r (load-judged b d t (k .read) r said);
   }
 
-module _ (b : Board) (read : designOf (fileOf b) ≡ got b (length (fileOf b))) (ticks : ℕ) (path : List ℕ) (k : Slow b ticks path) (d : Desk) (t : Tally) where
+module _ (b : Board) (read : designOf A (fileOf b) ≡ got b (length (fileOf b))) (ticks : ℕ) (path : List ℕ) (k : Slow b ticks path) (d : Desk) (t : Tally) where
   refused : (r : Loaded) → LoadJudged b d t r → LoadRefused d t r 10 ticks path
   refused r j = record {
     refused = slow-answer b ticks path k d (j .judged);

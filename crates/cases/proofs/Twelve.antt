@@ -15,8 +15,9 @@ use Rattle.groups.specs.Number.{shortestEnd, groupsFrom, numberAt, encodeIn, en
 use Rattle.curve.specs.Curve.{lengthAt, savingAt, ticksOf, slowestOf, savingOf, powerOf}
 use Rattle.curve.specs.Answers.{powerAtOf}
 use Rattle.curve.specs.Tests.{every}
+use Rattle.board.specs.declared.Rule.the-variants.{A}
 use Rattle.board.specs.declared.Board.{Board}
-use Rattle.board.specs.Board.{usable, view, WellFormed}
+use Rattle.board.specs.Board.{usable, view, WellFormed, usableUnder, delayOf}
 use Rattle.board.specs.Leads.{LoopFree}
 use Rattle.cone.specs.Sweeps.{upstreamOf, downstreamOf}
 use Rattle.cone.proofs.Examples.{upstream-K, downstream-K}
@@ -47,18 +48,18 @@ use Rattle.cases.proofs.Steps.{worked, another-is, holds-step, also-ste
 
 -- ---- boards that show a path too slow
 linked-formed : WellFormed (linkedK 9)
-linked-formed = design-well-formed (fileOf (linkedK 9)) (linkedK 9) _ (facts .readLinked)
+linked-formed = design-well-formed A (fileOf (linkedK 9)) (linkedK 9) _ (facts .readLinked)
 
 long-formed : WellFormed (long 4)
-long-formed = design-well-formed (fileOf (long 4)) (long 4) _ (facts .readLong)
+long-formed = design-well-formed A (fileOf (long 4)) (long 4) _ (facts .readLong)
 
 -- a deadline is no part of what has no loop
 linked-free : LoopFree (linkedK 9)
-unfolding view linkedK board curve
+unfolding view delayOf linkedK board curve
 linked-free = ranked-loop-free (linkedK 9) _ (known-ranked (linkedK 10) _ (facts .ofLinked))
 
 long-free : LoopFree (long 4)
-unfolding view long board curve
+unfolding view delayOf long board curve
 long-free = ranked-loop-free (long 4) _ (known-ranked (long 5) _ (facts .ofLong5))
 
 slow-linked : Slow (linkedK 9) 10 (0 ∷ 3 ∷ 1 ∷ 2 ∷ [])
@@ -95,7 +96,7 @@ module _ {n : Tally} {d : Desk} {t : Tally} (room : n .taken + n .refused < 6553
 -- ---- case (12)
 kin-of-K :
     KinOf (Critical K (worked K (4 ∷ 3 ∷ 3 ∷ 6 ∷ []) .start) (worked K (4 ∷ 3 ∷ 3 ∷ 6 ∷ []) .end)) 0 (record { parents = 1; children = 10 })
-unfolding valueOf budgetOf firsts timesBy endsOf endsBy table arrive greatest share view pick K board curve
+unfolding valueOf budgetOf firsts timesBy endsOf endsBy table arrive greatest share view delayOf pick K board curve
 kin-of-K =
     kin-is K refl refl refl refl (worked K (4 ∷ 3 ∷ 3 ∷ 6 ∷ []) .start) (worked K (4 ∷ 3 ∷ 3 ∷ 6 ∷ []) .end) refl refl refl refl refl
 
@@ -122,7 +123,7 @@ held-row b delays k is d t =
 -- "Proved together". Each `refl` is computed, and no answer of the table stands here a second time.
 pub all-promised : All Promised twelve
 unfolding All twelve Promised StepsPromised padded valueOf budgetOf delaysOf powersOf totalOf firsts timesBy fits settled inTime onCurves endsOf
-    endsBy table every arrive greatest share sum tick view usable powerAtOf powerOf slowestOf savingOf ticksOf lengthAt savingAt pick fileOf
+    endsBy table every arrive greatest share sum tick view delayOf usable usableUnder powerAtOf powerOf slowestOf savingOf ticksOf lengthAt savingAt pick fileOf
     partsBytes linksBytes linkedBytes bodyBytes headBytes curveBytes runsBytes inRow encode encodeIn numberAt groupsFrom shortestEnd ones onesIn K fileK D fileD flat fileFlat
     long fileLong linkedK shorterK board curve
 all-promised =

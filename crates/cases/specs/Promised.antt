@@ -11,6 +11,7 @@ use Rattle.refusal.specs.declared.Answer.the-variants as answer
 use Rattle.refusal.specs.Refusal.{by, refusal}
 use Rattle.groups.specs.declared.Read.the-variants as read
 use Rattle.groups.specs.Number.{numberAt}
+use Rattle.board.specs.declared.Rule.the-variants.{A}
 use Rattle.board.specs.declared.Board.{Board}
 use Rattle.slow.specs.Walk.{trailOf}
 use Rattle.budget.specs.declared.Budget.{Budget}
@@ -129,7 +130,7 @@ StepsPromised (s ∷ steps) d t = StepPromised s (StepsPromised steps) d t
 
 -- a row of the table
 unfoldable pub Promised : Case → Type 0
-Promised (row.file b bytes) = (fileOf b ≡ bytes) × (designOf bytes ≡ got b (length bytes))
+Promised (row.file b bytes) = (fileOf b ≡ bytes) × (designOf A bytes ≡ got b (length bytes))
 Promised (row.board b steps) =
     (d : Desk) (t : Tally) → Comes (LoadSaid d (fileOf b) t) (λ r. (r .answer ≡ answer.Done) × StepsPromised steps (r .desk) (r .tally))
 Promised (row.board-not b number place path) =

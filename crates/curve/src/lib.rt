@@ -152,7 +152,7 @@ impl Curve {
 
     pub const FASTEST_MAX: u32 = 1023;
 
-    pub const POWER_MAX: u32 = 2000000;
+    pub const POWER_MAX: u32 = 20000000;
 
     pub const RUNS_MAX: usize = 4;
 

@@ -7,6 +7,7 @@ use lib.ListN.{length}
 use Rattle.refusal.specs.declared.Why.{Why}
 use Rattle.refusal.specs.declared.Answer.{Answer}
 use Rattle.refusal.specs.declared.Answer.the-variants.{Done, Refused}
+use Rattle.board.specs.declared.Rule.the-variants.{A}
 use Rattle.board.specs.declared.Board.{Board}
 use Rattle.board.specs.Board.{WellFormed}
 use Rattle.fields.specs.Parse.{Parse, got, stop}
@@ -42,7 +43,7 @@ module _ (d : Desk) (t : Tally) (r : Loaded) where
       judged-accepted b (judged-done b ok j) j
 
   -- where it is accepted, none applied, and the board is the file's
-  parsed-came : (s : List ℕ) (p : Parse Board) → designOf s ≡ p → LoadParsed p d t r → r .answer ≡ Done → Came s r
+  parsed-came : (s : List ℕ) (p : Parse Board) → designOf A s ≡ p → LoadParsed p d t r → r .answer ≡ Done → Came s r
   parsed-came s (stop why place) e is done = never (sym (ap (λ (x : Loaded). x .answer) is) ∙ done)
   parsed-came s (got b next) e j done =
       let so = judged-accepted b done j in
@@ -54,7 +55,7 @@ module _ (d : Desk) (t : Tally) (r : Loaded) where
       }
 
   pub load-accepted : (s : List ℕ) → LoadSaid d s t r → r .answer ≡ Done → Came s r
-  load-accepted s said done = parsed-came s (designOf s) refl (said .parsed) done
+  load-accepted s said done = parsed-came s (designOf A s) refl (said .parsed) done
 
   -- every board without a loop that has any budget at all is loaded from the file that is written of it
   pub written-loads : (b : Board) → Plannable b → LoadSaid d (fileOf b) t r → Accepted b r

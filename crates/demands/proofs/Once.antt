@@ -8,6 +8,7 @@ use native.Mathlib.Omega.{arith}
 use Rattle.refusal.specs.declared.Why.{Why}
 use Rattle.refusal.specs.declared.Answer.{Answer}
 use Rattle.refusal.specs.declared.Answer.the-variants.{Done, Refused}
+use Rattle.board.specs.declared.Rule.the-variants.{A}
 use Rattle.board.specs.declared.Board.{Board}
 use Rattle.board.specs.Board.{WellFormed}
 use Rattle.slow.specs.declared.Trail.{Trail}
@@ -84,7 +85,7 @@ module _ (d : Desk) (t : Tally) where
   load-parsed-once (got b next) well r r′ j j′ = load-judged-once b (well b next refl) r r′ j j′
 
   pub load-once : (s : List ℕ) (r r′ : Loaded) → LoadSaid d s t r → LoadSaid d s t r′ → SameLoaded r r′
-  load-once s r r′ said said′ = load-parsed-once (designOf s) (design-well-formed s) r r′ (said .parsed) (said′ .parsed)
+  load-once s r r′ said said′ = load-parsed-once (designOf A s) (design-well-formed A s) r r′ (said .parsed) (said′ .parsed)
 
   -- a refused load changes nothing
   load-judged-kept : (b : Board) (r : Loaded) {why : Why} {place : ℕ} → LoadJudged b d t r → r .answer ≡ Refused why place → (r .desk ≡ d) × (r .tally ≡ t)
@@ -97,7 +98,7 @@ module _ (d : Desk) (t : Tally) where
 
   pub load-refused-stays :
       (s : List ℕ) (r : Loaded) {why : Why} {place : ℕ} → LoadSaid d s t r → r .answer ≡ Refused why place → (r .desk ≡ d) × (r .tally ≡ t)
-  load-refused-stays s r said e = load-parsed-kept (designOf s) r (said .parsed) e
+  load-refused-stays s r said e = load-parsed-kept (designOf A s) r (said .parsed) e
 
 -- ---- orders
 same-ordered : (r r′ : Ordered) → r ≡ r′ → SameOrdered r r′

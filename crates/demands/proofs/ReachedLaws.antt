@@ -9,6 +9,7 @@ use Rattle.base.specs.Pick.{pick}
 use Rattle.refusal.specs.declared.Why.{Why}
 use Rattle.refusal.specs.declared.Answer.{Answer}
 use Rattle.refusal.specs.declared.Answer.the-variants.{Done, Refused}
+use Rattle.board.specs.declared.Rule.the-variants.{A}
 use Rattle.board.specs.declared.Board.{Board}
 use Rattle.slow.specs.declared.Trail.{Trail}
 use Rattle.budget.specs.Budget.{Holds}
@@ -118,7 +119,7 @@ module _ (d : Desk) (t : Tally) (so : Standing d) where
   kept-standing e = rw e so
 
   pub load-standing : (s : List ℕ) (r : Loaded) → LoadSaid d s t r → Standing (r .desk)
-  load-standing s r said = parsed (designOf s) (said .parsed)
+  load-standing s r said = parsed (designOf A s) (said .parsed)
     where
       parsed : (p : Parse Board) → LoadParsed p d t r → Standing (r .desk)
       parsed (stop why place) is = kept-standing (ap (λ (x : Loaded). x .desk) is)

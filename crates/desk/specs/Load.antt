@@ -5,6 +5,7 @@ use mathlib.Core.List.{List, []}
 use Prim.Native.Nat.{ℕ}
 use Rattle.refusal.specs.declared.Answer.{Answer}
 use Rattle.refusal.specs.declared.Answer.the-variants.{Done, Refused}
+use Rattle.board.specs.declared.Rule.the-variants.{A}
 use Rattle.board.specs.declared.Board.{Board}
 use Rattle.slow.specs.Walk.{trailOf}
 use Rattle.fields.specs.Parse.{Parse, got, stop}
@@ -37,4 +38,4 @@ LoadParsed (stop why place) d t r = r ≡ loadRefused (Refused why place) [] d t
 LoadParsed (got b next) d t r = LoadJudged b d t r
 
 pub record LoadSaid (d : Desk) (s : List ℕ) (t : Tally) (r : Loaded) : Type 0 where
-  pub parsed : LoadParsed (designOf s) d t r
+  pub parsed : LoadParsed (designOf A s) d t r

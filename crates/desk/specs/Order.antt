@@ -12,7 +12,8 @@ use Rattle.refusal.specs.declared.Answer.{Answer}
 use Rattle.refusal.specs.declared.Answer.the-variants.{Done, Refused}
 use Rattle.curve.specs.declared.Curve.{Curve}
 use Rattle.board.specs.declared.Board.{Board}
-use Rattle.edits.specs.Edits.{linkOf, hasLinkOf, withDeadlineOf, withCurveOf, withLinkOf, withoutLinkOf}
+use Rattle.board.specs.Board.{plainLink}
+use Rattle.edits.specs.Edits.{hasLinkOf, withDeadlineOf, withCurveOf, withLinkOf, withoutLinkOf}
 use Rattle.slow.specs.Walk.{trailOf}
 use Rattle.fields.specs.Parse.{Parse, got, stop}
 use Rattle.orders.specs.declared.Change.{Change}
@@ -47,9 +48,9 @@ placeTried b (AddLink from to) =
     (withPart b to
     (pick (eqb from to)
     (refusal 7 0)
-    (pick (hasLinkOf b (linkOf from to)) (refusal 13 0) (pick (leb 256 (b .links)) (refusal 15 0) Done))))
+    (pick (hasLinkOf b (plainLink from to)) (refusal 13 0) (pick (leb 256 (b .links)) (refusal 15 0) Done))))
 placeTried b (RemoveLink from to) =
-    withPart b from (withPart b to (pick (hasLinkOf b (linkOf from to)) Done (refusal 14 0)))
+    withPart b from (withPart b to (pick (hasLinkOf b (plainLink from to)) Done (refusal 14 0)))
 placeTried b (NewCurve part) = withPart b part Done
 
 -- "and then tried: 11, 18, 17 .."; 18: "tally's sum is 65,535 or more"

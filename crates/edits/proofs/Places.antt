@@ -16,12 +16,12 @@ use Rattle.base.specs.Pick.{pick}
 use Rattle.base.proofs.Cases.{lt-or-le}
 use Rattle.board.specs.declared.Link.{Link}
 use Rattle.board.specs.declared.Board.{Board}
-use Rattle.board.specs.Board.{WellFormed, Linked, linkAt, noLink, order}
+use Rattle.board.specs.Board.{WellFormed, Linked, plainLink, linkAt, noLink, order}
 use Rattle.board.specs.Tests.{Decides, belowOf}
 use Rattle.board.proofs.LinkLaws.{clash, below-one, below-none, both-hold}
 use Rattle.board.proofs.Ascending.{Parted, parted, rises}
 use Rattle.board.proofs.SameBoard.{orders, to-below}
-use Rattle.edits.specs.Edits.{linkOf, countBefore, placeOf, some, sameEnds, hasLinkOf, filled, insertedAt, insertedOf, removedAt, removedOf}
+use Rattle.edits.specs.Edits.{countBefore, placeOf, some, sameEnds, hasLinkOf, filled, insertedAt, insertedOf, removedAt, removedOf}
 use Rattle.edits.proofs.Ways.{endsAt, link-found}
 
 not-so : (t : Bool) → (t ≡ true → ⊥) → t ≡ false
@@ -67,10 +67,10 @@ some-found (suc n) p e = ⊎-elim
     (λ (h : some n p ≡ true). let f = some-found n p h in record { at = f .at; here = omega (arith, f .here); passes = f .passes })
     (either-one (p n) (some n p) e)
 
-pub has-linked : (b : Board) (from to : ℕ) → hasLinkOf b (linkOf from to) ≡ true → Linked b from to
+pub has-linked : (b : Board) (from to : ℕ) → hasLinkOf b (plainLink from to) ≡ true → Linked b from to
 unfolding hasLinkOf sameEnds
 has-linked b from to e =
-    let f = some-found (b .links) (λ l. sameEnds (linkAt b l) (linkOf from to)) (both-hold _ _ e .1) in
+    let f = some-found (b .links) (λ l. sameEnds (linkAt b l) (plainLink from to)) (both-hold _ _ e .1) in
     let ends = both-hold _ _ (f .passes) in
     record { link = f .at; here = f .here; from = eqb-true _ _ (ends .0); to = eqb-true _ _ (ends .1) }
 
@@ -78,21 +78,21 @@ module _ (b : Board) (w : WellFormed b) (from to : ℕ) (k : Linked b from to) w
   pub ends-small : to < 64
   ends-small = omega (arith, to-below b w (k .link) (k .here), k .to)
 
-  pub linked-place : placeOf b (linkOf from to) ≡ k .link
-  linked-place = place-is b w (linkOf from to) ends-small (k .link) (k .here) (omega (arith, k .from, k .to))
+  pub linked-place : placeOf b (plainLink from to) ≡ k .link
+  linked-place = place-is b w (plainLink from to) ends-small (k .link) (k .here) (omega (arith, k .from, k .to))
 
   linked-ends : endsAt b from to (k .link) ≡ true
   unfolding sameEnds pick
   linked-ends = rw (eq-eqb _ _ (k .from), eq-eqb _ _ (k .to))
 
-  pub linked-has : hasLinkOf b (linkOf from to) ≡ true
+  pub linked-has : hasLinkOf b (plainLink from to) ≡ true
   linked-has = sym (link-found b from to (k .link) true (w .links-to) (k .here) (sym linked-ends) refl)
 
-pub has-link-decides : (b : Board) → WellFormed b → (from to : ℕ) → Decides (hasLinkOf b (linkOf from to)) (Linked b from to)
+pub has-link-decides : (b : Board) → WellFormed b → (from to : ℕ) → Decides (hasLinkOf b (plainLink from to)) (Linked b from to)
 has-link-decides b w from to = record { yes = has-linked b from to; no = linked-has b w from to }
 
-pub missing-false : (b : Board) (from to : ℕ) → (Linked b from to → ⊥) → hasLinkOf b (linkOf from to) ≡ false
-missing-false b from to none = not-so (hasLinkOf b (linkOf from to)) (λ e. none (has-linked b from to e))
+pub missing-false : (b : Board) (from to : ℕ) → (Linked b from to → ⊥) → hasLinkOf b (plainLink from to) ≡ false
+missing-false b from to none = not-so (hasLinkOf b (plainLink from to)) (λ e. none (has-linked b from to e))
 
 -- ---- rows
 module _ (old : List Link) (f : ℕ → Link) where

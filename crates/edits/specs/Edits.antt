@@ -12,11 +12,8 @@ use Rattle.curve.specs.declared.Ticks.{Ticks}
 use Rattle.curve.specs.declared.Curve.{Curve}
 use Rattle.board.specs.declared.Link.{Link}
 use Rattle.board.specs.declared.Board.{Board}
-use Rattle.board.specs.Board.{linkAt, noLink}
+use Rattle.board.specs.Board.{plainLink, linkAt, noLink}
 use Rattle.board.specs.Tests.{belowOf}
-
-abbrev pub linkOf : ℕ → ℕ → Link
-linkOf from to = record { from = from; to = to }
 
 -- how many of the first n links stand before x
 unfoldable pub countBefore : Board → Link → ℕ → ℕ
@@ -63,11 +60,12 @@ addable b x = pick (ltb (b .links) 256) (not (hasLinkOf b x)) false
 
 -- "1: deadline"
 unfoldable pub withDeadlineOf : Board → Ticks → Board
-withDeadlineOf b d = record { deadline = d; parts = b .parts; curve = b .curve; links = b .links; link = b .link }
+withDeadlineOf b d = record { rule = b .rule; deadline = d; parts = b .parts; curve = b .curve; links = b .links; link = b .link }
 
 -- "4: part, then a whole new curve"
 unfoldable pub withCurveOf : Board → ℕ → Curve → Board
 withCurveOf b p c = record {
+  rule = b .rule;
   deadline = b .deadline;
   parts = b .parts;
   curve = pick (ltb p (b .parts)) (set (b .curve) p c) (b .curve);
@@ -75,22 +73,24 @@ withCurveOf b p c = record {
   link = b .link;
 }
 
--- "2: from, to, a link to add"
+-- "2: from, to, a link to add", without a delay
 unfoldable pub withLinkOf : Board → ℕ → ℕ → Board
 withLinkOf b from to = record {
+  rule = b .rule;
   deadline = b .deadline;
   parts = b .parts;
   curve = b .curve;
-  links = pick (addable b (linkOf from to)) (b .links + 1) (b .links);
-  link = pick (addable b (linkOf from to)) (insertedOf (b .link) (placeOf b (linkOf from to)) (linkOf from to)) (b .link);
+  links = pick (addable b (plainLink from to)) (b .links + 1) (b .links);
+  link = pick (addable b (plainLink from to)) (insertedOf (b .link) (placeOf b (plainLink from to)) (plainLink from to)) (b .link);
 }
 
 -- "3: from, to, a link to remove"
 unfoldable pub withoutLinkOf : Board → ℕ → ℕ → Board
 withoutLinkOf b from to = record {
+  rule = b .rule;
   deadline = b .deadline;
   parts = b .parts;
   curve = b .curve;
-  links = pick (hasLinkOf b (linkOf from to)) (b .links - 1) (b .links);
-  link = pick (hasLinkOf b (linkOf from to)) (removedOf (b .link) (placeOf b (linkOf from to))) (b .link);
+  links = pick (hasLinkOf b (plainLink from to)) (b .links - 1) (b .links);
+  link = pick (hasLinkOf b (plainLink from to)) (removedOf (b .link) (placeOf b (plainLink from to))) (b .link);
 }

@@ -16,7 +16,7 @@ use Rattle.groups.specs.declared.Read.the-variants.{Number}
 use Rattle.groups.specs.declared.Read.the-variants as read
 use Rattle.groups.specs.Number.{numberAt}
 use Rattle.curve.specs.declared.Curve.{Curve}
-use Rattle.curve.specs.Curve.{savingsOf}
+use Rattle.curve.specs.Curve.{powerMax, savingsOf}
 use Rattle.fields.specs.declared.CurveRead.{CurveRead}
 use Rattle.fields.specs.Parse.{Parse, got, stop, and-then, repeat, number, rangedAt, fieldAt}
 use Rattle.fields.specs.CurveFile.{bare, withRun, falls, runFrom, runsFrom, curveFrom, curveRead}
@@ -127,7 +127,7 @@ module _ (s : List ℕ) (at : ℕ) (f : Read) (is : number f ≡ fieldAt s 1 102
   unfolding curveFrom and-then
   curve-no-fastest why place r e ends = rw (← is, e) ends
 
-  module _ (fastest at₁ : ℕ) (e : f ≡ Number fastest at₁) (g : Read) (is₁ : number g ≡ fieldAt s 0 2000000 at₁) where
+  module _ (fastest at₁ : ℕ) (e : f ≡ Number fastest at₁) (g : Read) (is₁ : number g ≡ fieldAt s 0 powerMax at₁) where
     pub curve-no-power : (why : Why) (place : ℕ) (r : CurveRead) → g ≡ read.Refused why place → r ≡ curveRead (stop why place) → r ≡ curveRead (curveFrom s at)
     unfolding curveFrom and-then
     curve-no-power why place r e₁ ends = rw (← is, e, ← is₁, e₁) ends

@@ -11,7 +11,7 @@ use Rattle.refusal.specs.declared.Answer.the-variants.{Done, Refused}
 use Rattle.curve.specs.declared.Run.{Run}
 use Rattle.curve.specs.declared.Curve.{Curve}
 use Rattle.fields.specs.declared.CurveRead.{CurveRead}
-use Rattle.curve.specs.Curve.{noRun, runAt, savingAt, savingsOf}
+use Rattle.curve.specs.Curve.{powerMax, noRun, runAt, savingAt, savingsOf}
 use Rattle.groups.specs.Number.{encode}
 use Rattle.fields.specs.Writing.{inRow}
 use Rattle.fields.specs.Parse.{Parse, got, stop, and-then, repeat, fieldAt}
@@ -55,7 +55,7 @@ runsFrom s fastest power powerPlace at =
 unfoldable pub curveFrom : List ℕ → ℕ → Parse Curve
 curveFrom s at =
     and-then (fieldAt s 1 1023 at) (λ fastest at₁.
-    and-then (fieldAt s 0 2000000 at₁) (λ power at₂.
+    and-then (fieldAt s 0 powerMax at₁) (λ power at₂.
     runsFrom s fastest power at₁ at₂))
 
 -- what the reader hands back: at a fault no curve, and no place past it

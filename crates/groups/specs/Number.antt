@@ -1,6 +1,7 @@
 -- 01, Files: "A number is unsigned, in groups of seven bits, lowest group first, high bit set on all but the last (ULEB128 of the DWARF
--- standard), at most three groups, shortest form only." What reading one finds, and the form of one. The subtle point is the order of
--- refusals 1 and 2: once the last group that a number may have promises another, it is 2, whether or not the input ends there.
+-- standard)". 02, Req 02: "a number may have four groups, still in shortest form". What reading one finds, and the form of one.
+-- The subtle point is the order of refusals 1 and 2: once the last group that a number may have promises another, it is 2, whether or not
+-- the input ends there.
 -- Assumes nothing.
 use Prim.Native.Nat.{ℕ, zero, suc, _+_, _-_, _*_, _/_, _%_, _^_}
 use mathlib.Core.List.{List, [], _∷_}
@@ -13,11 +14,11 @@ use Rattle.refusal.specs.Refusal.{by}
 use Rattle.groups.specs.declared.Read.{Read}
 use Rattle.groups.specs.declared.Read.the-variants.{Number, Refused}
 
--- "at most three groups"
+-- 02, Req 02: "a number may have four groups"
 abbrev pub groups : ℕ
-groups = 3
+groups = 4
 
--- the least number that has no form: 2,097,152
+-- the least number that has no form: 268,435,456
 abbrev pub limit : ℕ
 limit = 128 ^ groups
 

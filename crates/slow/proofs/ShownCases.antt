@@ -10,9 +10,10 @@ use Rattle.theory.specs.Budget.{greatest, arrive}
 use Rattle.curve.specs.declared.Run.{Run}
 use Rattle.curve.specs.declared.Curve.{Curve}
 use Rattle.curve.specs.Curve.{noRun}
+use Rattle.board.specs.declared.Rule.the-variants.{A}
 use Rattle.board.specs.declared.Link.{Link}
 use Rattle.board.specs.declared.Board.{Board}
-use Rattle.board.specs.Board.{noLink, blankCurve, usable, view}
+use Rattle.board.specs.Board.{plainLink, noLink, blankCurve, usableUnder, usable, delayOf, view}
 use Rattle.slow.specs.declared.ShownPath.{ShownPath}
 use Rattle.slow.specs.Slow.{First, LastPart, StepBack, first, next, Loopless, FastestEnds, SlowPath, shown, SlowOf, exceeded}
 use Rattle.slow.proofs.SlowLaws.{slow-once}
@@ -24,11 +25,12 @@ abbrev curve : ℕ → ℕ → ℕ → List Run → Curve
 curve fastest power count runs = record { fastest = record { 0 = fastest }; power = record { 0 = power }; count = count; runs = runs }
 
 abbrev link : ℕ → ℕ → Link
-link from to = record { from = from; to = to }
+link from to = plainLink from to
 
 -- ---- case (9)
 unfoldable pub boardK : Board
 boardK = record {
+  rule = A;
   deadline = record { 0 = 9 };
   parts = 4;
   curve = curve 2 100 2 (run 2 20 ∷ run 1 5 ∷ noRun ∷ noRun ∷ [])
@@ -51,14 +53,14 @@ abbrev endsK : ℕ → ℕ
 endsK = cells (2 ∷ 9 ∷ 10 ∷ 6 ∷ [])
 
 fastestK : FastestEnds boardK endsK
-unfolding boardK view arrive greatest share
+unfolding boardK view delayOf arrive greatest share
 fastestK = record {
   start = cells (0 ∷ 6 ∷ 9 ∷ 2 ∷ []);
   timed = record { starts = below-4 _ refl refl refl refl; ends = below-4 _ refl refl refl refl };
 }
 
 lastK : LastPart (view boardK) endsK 2
-unfolding boardK view
+unfolding boardK view delayOf
 lastK = record {
   here = omega arith;
   greatest = below-4 _ (omega arith) (omega arith) (omega arith) (omega arith);
@@ -69,7 +71,7 @@ abbrev StepK : ℕ → ℕ → Type 0
 StepK p q = StepBack (view boardK) endsK p q
 
 step-2 : StepK 2 1
-unfolding boardK view
+unfolding boardK view delayOf
 step-2 = record {
   by = record { link = 2; here = omega arith; from = refl; to = refl };
   greatest = below-4 _ (λ q. omega arith) (λ q. omega arith) (λ q. omega arith) (λ q. omega arith);
@@ -77,7 +79,7 @@ step-2 = record {
 }
 
 step-1 : StepK 1 3
-unfolding boardK view
+unfolding boardK view delayOf
 step-1 = record {
   by = record { link = 3; here = omega arith; from = refl; to = refl };
   greatest = below-4 _ (λ q. omega arith) (λ q. omega arith) (λ q. omega arith) (λ q. omega arith);
@@ -85,7 +87,7 @@ step-1 = record {
 }
 
 step-3 : StepK 3 0
-unfolding boardK view
+unfolding boardK view delayOf
 step-3 = record {
   by = record { link = 1; here = omega arith; from = refl; to = refl };
   greatest = below-4 _ (λ q. omega arith) (λ q. omega arith) (λ q. omega arith) (λ q. omega arith);
@@ -93,11 +95,11 @@ step-3 = record {
 }
 
 first-0 : First (view boardK) 0
-unfolding boardK view
+unfolding boardK view delayOf
 first-0 = record { none = below-4 _ (λ q. omega arith) (λ q. omega arith) (λ q. omega arith) (λ q. omega arith) }
 
 pub slow-K : SlowPath boardK 10 (0 ∷ 3 ∷ 1 ∷ 2 ∷ [])
-unfolding boardK usable
+unfolding boardK usable usableUnder
 slow-K = record {
   end = endsK;
   part = 2;
@@ -114,6 +116,7 @@ case-9 ok r s = slow-once boardK ok r (shown 10 (0 ∷ 3 ∷ 1 ∷ 2 ∷ [])) s 
 -- ---- case (7)
 unfoldable pub board1 : Board
 board1 = record {
+  rule = A;
   deadline = record { 0 = 4 };
   parts = 1;
   curve = curve 5 255 1 (run 255 1 ∷ noRun ∷ noRun ∷ noRun ∷ []) ∷ replicate 63 blankCurve;
@@ -126,7 +129,7 @@ only-0 P a zero h = a
 only-0 P a (suc p) h = absurd (omega arith)
 
 pub slow-1 : SlowPath board1 5 (0 ∷ [])
-unfolding board1 usable view arrive greatest
+unfolding board1 usable usableUnder view delayOf arrive greatest
 slow-1 = record {
   end = cells (5 ∷ []);
   part = 0;

@@ -19,7 +19,7 @@ use Rattle.slow.specs.declared.ShownPath.{ShownPath}
 use Rattle.slow.specs.Walk.{trailOf}
 use Rattle.slow.specs.Slow.{Loopless, shown, inTime, SlowOf, kept, exceeded}
 use Rattle.solver.specs.Verdict.{looped, slow, fine}
-use Rattle.solver.specs.Judge.{Timely, JudgedOf}
+use Rattle.solver.specs.Judging.{Timely, JudgedOf}
 
 off-on : {A : Type 0} {t : Bool} → t ≡ false → t ≡ true → A
 off-on off on = absurd (let z : _≡_ {A = ℕ} 0 1 = cc in omega arith)
