@@ -95,7 +95,7 @@ const FAULTY_ORDERS: &[(&str, u32, u32)] = &[
 fn refusal_of<T>(read: Result<T, Refusal>, hex: &str) -> (u32, u32) {
     match read {
         Ok(_) => panic!("{hex} was read"),
-        Err(refusal) => (refusal.number, refusal.place),
+        Err(refusal) => (refusal.number, refusal.place as u32),
     }
 }
 
