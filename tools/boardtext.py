@@ -1,11 +1,12 @@
 #!/usr/bin/env python3
 """Boards and orders as text, and as the files that Boddivarn reads.
 
-usage: boardtext.py pack BOARD.TXT [ORDERS.TXT] --out DIR     writes DIR/board.dat, DIR/orders.dat and DIR/names.txt
+usage: boardtext.py pack BOARD.TXT [ORDERS.TXT] --out DIR     writes DIR/board.dat, DIR/orders.dat, DIR/names.txt and DIR/calls.dat
        boardtext.py unpack DIR                                prints the board and the orders of DIR as text
 
 Board text, a fact on a line; a line that begins with # is a comment, and so is an empty one:
 
+    rule B                                            left out: rule A
     deadline 10
     part AMP fastest 2 power 100 runs 2@20 1@5        runs as length@saving, none for a flat curve
     link AMP VIA
@@ -19,6 +20,8 @@ Order text, an order on a line:
 
 Parts are numbered in the order of their lines, and named by labels of 1 to 16 bytes from 33 to 126. Every number is written out:
 a blank or missing one is an error with its line, never zero. What concerns the board as a whole (loops, time) is the planner's to refuse.
+A design file does not say the rule, a load names it: the program names A. calls.dat is for the support program `calls`, which names the
+text's: it loads the board, takes the orders and shows what is held.
 """
 import os
 import sys
@@ -31,6 +34,7 @@ LIMITS = {  # 01, The board
     "saving": (1, 1000),
 }
 MOST_PARTS, MOST_LINKS, MOST_RUNS, GROUPS = 64, 256, 4, 4
+RULES = {"A": 0, "B": 1}
 
 
 class TextError(Exception):
@@ -141,10 +145,26 @@ def part_of(words, at, parts, where):
     return parts[name]
 
 
+def rule_named(text, name="board"):
+    """The number of the rule that a board text names; A where it names none."""
+    rule = None
+    for where, words in lines_of(text, name):
+        if words[0] == "rule":
+            if rule is not None:
+                raise TextError(f"{where}: a second rule")
+            if len(words) < 2 or words[1] not in RULES:
+                raise TextError(f"{where}: a rule is A or B")
+            end(words, 2, where)
+            rule = RULES[words[1]]
+    return rule or 0
+
+
 def pack_board(text, name="board"):
     """The design file of a board text, and the names of its parts in their order."""
     deadline, parts, curves, links = None, {}, [], {}
     for where, words in lines_of(text, name):
+        if words[0] == "rule":
+            continue  # rule_named
         if words[0] == "deadline":
             if deadline is not None:
                 raise TextError(f"{where}: a second deadline")
@@ -167,7 +187,7 @@ def pack_board(text, name="board"):
                 raise TextError(f"{where}: this link stands at {links[link]} already")
             links[link] = where
         else:
-            raise TextError(f"{where}: {words[0]!r} is none of deadline, part, link")
+            raise TextError(f"{where}: {words[0]!r} is none of rule, deadline, part, link")
     if deadline is None:
         raise TextError(f"{name}: the deadline is missing")
     if not curves:
@@ -181,22 +201,36 @@ def pack_board(text, name="board"):
 
 
 def pack_orders(text, names, name="orders"):
-    """The order stream of an order text; parts go by the names of the board."""
+    """The order stream of an order text."""
+    return b"".join(orders_of(text, names, name))
+
+
+def orders_of(text, names, name="orders"):
+    """The orders of an order text one by one; parts go by the names of the board."""
     parts = {label: p for p, label in enumerate(names)}
-    out = b""
+    out = []
     for where, words in lines_of(text, name):
         if words[0] == "deadline":
-            out += encode(1) + encode(number(words, 1, "deadline", where))
+            out.append(encode(1) + encode(number(words, 1, "deadline", where)))
             end(words, 2, where)
         elif words[0] in ("add", "remove"):
             kind = 2 if words[0] == "add" else 3
-            out += encode(kind) + encode(part_of(words, 1, parts, where)) + encode(part_of(words, 2, parts, where))
+            out.append(encode(kind) + encode(part_of(words, 1, parts, where)) + encode(part_of(words, 2, parts, where)))
             end(words, 3, where)
         elif words[0] == "curve":
-            out += encode(4) + encode(part_of(words, 1, parts, where)) + curve_bytes(curve_of(words, 2, where))
+            out.append(encode(4) + encode(part_of(words, 1, parts, where)) + curve_bytes(curve_of(words, 2, where)))
         else:
             raise TextError(f"{where}: {words[0]!r} is none of deadline, add, remove, curve")
     return out
+
+
+def pack_calls(rule, board, orders):
+    """The calls of a session: its rule is named, the board loaded, each order given, and what is held is asked for."""
+
+    def given(call, data):
+        return bytes([call]) + len(data).to_bytes(8, "little") + data
+
+    return bytes([1]) + rule.to_bytes(8, "little") + given(3, board) + b"".join(given(4, order) for order in orders) + bytes([13])
 
 
 # ---- bytes to text
@@ -330,10 +364,18 @@ def pack(arguments):
     out, texts = arguments[at + 1], arguments[:at] + arguments[at + 2:]
     if not 1 <= len(texts) <= 2:
         raise TextError("pack: one board text and at most one order text")
-    board, names = pack_board(read_text(texts[0]), texts[0])
-    orders = pack_orders(read_text(texts[1]), names, texts[1]) if len(texts) == 2 else b""
+    text = read_text(texts[0])
+    rule = rule_named(text, texts[0])
+    board, names = pack_board(text, texts[0])
+    orders = orders_of(read_text(texts[1]), names, texts[1]) if len(texts) == 2 else []
     os.makedirs(out, exist_ok=True)
-    for name, data in (("board.dat", board), ("orders.dat", orders), ("names.txt", "".join(n + "\n" for n in names).encode())):
+    files = {
+        "board.dat": board,
+        "orders.dat": b"".join(orders),
+        "names.txt": "".join(n + "\n" for n in names).encode(),
+        "calls.dat": pack_calls(rule, board, orders),
+    }
+    for name, data in files.items():
         with open(os.path.join(out, name), "wb") as file:
             file.write(data)
 

@@ -2,7 +2,7 @@
 import random
 import unittest
 
-from boardtext import Bytes, TextError, encode, pack_board, pack_orders, unpack_board, unpack_orders
+from boardtext import Bytes, TextError, encode, pack_board, pack_calls, pack_orders, rule_named, unpack_board, unpack_orders
 
 K_TEXT = """# board K of 01
 deadline 10
@@ -24,6 +24,24 @@ class Board(unittest.TestCase):
         text, labels = unpack_board(K_FILE, K_NAMES)
         self.assertEqual(labels, K_NAMES)
         self.assertEqual(pack_board(text), (K_FILE, K_NAMES))
+
+    def test_rules(self):
+        self.assertEqual([rule_named(K_TEXT), rule_named("rule A\n" + K_TEXT), rule_named(K_TEXT + "rule B\n")], [0, 0, 1])
+        self.assertEqual(pack_board("rule B\n" + K_TEXT), (K_FILE, K_NAMES))
+        for text, message in [
+            ("rule\n", "b:1: a rule is A or B"),
+            ("rule C\n", "b:1: a rule is A or B"),
+            ("rule 1\n", "b:1: a rule is A or B"),
+            ("rule B B\n", "b:1: 'B' is one word too many"),
+            ("rule A\nrule A\n", "b:2: a second rule"),
+        ]:
+            with self.assertRaises(TextError) as caught:
+                rule_named(text, "b")
+            self.assertEqual(str(caught.exception), message)
+
+    def test_calls_name_the_rule(self):
+        one, two = (1).to_bytes(8, "little"), (2).to_bytes(8, "little")
+        self.assertEqual(pack_calls(1, b"k", [b"ab"]), b"\x01" + one + b"\x03" + one + b"k" + b"\x04" + two + b"ab" + b"\x0d")
 
     def test_parts_without_names(self):
         text, labels = unpack_board(K_FILE, ["AMP", "", "has blank", "AMP"])
@@ -57,7 +75,7 @@ class Board(unittest.TestCase):
             ("part A fastest 1 power 0\nlink A\n", "b:2: a part's name is missing"),
             ("part A fastest 1 power 0\nlink A A\n", "b:2: a link from a part to itself"),
             ("part A fastest 1 power 0\npart B fastest 1 power 0\nlink A B\nlink A B\n", "b:4: this link stands at b:3 already"),
-            ("board\n", "b:1: 'board' is none of deadline, part, link"),
+            ("board\n", "b:1: 'board' is none of rule, deadline, part, link"),
         ]:
             with self.subTest(text=text), self.assertRaises(TextError) as raised:
                 pack_board(text, "b")

@@ -1,4 +1,5 @@
-"""Tests of the built program `boddivarn`: what it prints for good, missing, refused and cut files, and for every kind of name sheet."""
+"""Tests of the built programs: what `boddivarn` prints for good, missing, refused and cut files, and for every kind of name sheet, and where `calls`
+stops."""
 import os
 import subprocess
 import tempfile
@@ -11,13 +12,23 @@ NAMES = b"AMP\nVIA\nBUF\nTRACE\n"
 TABLE = "part label start delay end power\n0 {} 0 4 4 60\n1 {} 4 3 7 90\n2 {} 7 2 9 38\n3 {} 4 5 9 34\ntotal 222\n"
 
 
-def run(**files):
+FILES = {"board": "board.dat", "orders": "orders.dat", "names": "names.txt", "calls": "calls.dat"}
+
+
+def run(program="boddivarn", **files):
     """The program's output in a folder that holds these files."""
     with tempfile.TemporaryDirectory() as folder:
         for name, data in files.items():
-            with open(os.path.join(folder, {"board": "board.dat", "orders": "orders.dat", "names": "names.txt"}[name]), "wb") as file:
+            with open(os.path.join(folder, FILES[name]), "wb") as file:
                 file.write(data)
-        return subprocess.run([os.path.join(HERE, "run"), "boddivarn"], cwd=folder, capture_output=True, check=True).stdout.decode("ascii")
+        return subprocess.run([os.path.join(HERE, "run"), program], cwd=folder, capture_output=True, check=True).stdout.decode("ascii")
+
+
+def call(byte, *numbers, string=None):
+    """A call as bytes: its byte, its numbers, and its byte string after its length."""
+    if string is not None:
+        numbers += (len(string),)
+    return bytes([byte]) + b"".join(number.to_bytes(8, "little") for number in numbers) + (string or b"")
 
 
 def number(n):
@@ -123,6 +134,34 @@ class Labels(unittest.TestCase):
     def test_a_sheet_past_4096_bytes(self):
         self.assertEqual(labels(b"x" * 4095 + b"\nB\nC\nD\n"), ["-"] * 4)
         self.assertEqual(labels(b"x" * 4090 + b"\nABCDEFGH\n"), ["-", "ABCDE", "-", "-"])
+
+
+class Calls(unittest.TestCase):
+    LOAD, TALLY, COUNTS, POWER, LABEL, WRITE, STATE = 3, 5, 6, 7, 11, 12, 13
+
+    def test_nothing_to_call(self):
+        self.assertEqual(run("calls"), "")
+        self.assertEqual(run("calls", calls=b""), "")
+
+    def test_a_call_cut_short_stops(self):
+        for whole in [call(1, 7), call(self.LOAD, string=K), call(self.TALLY, 1, 2), call(self.LABEL, 1, string=NAMES), call(self.WRITE, 1, 1, 0)]:
+            for end in {1, 2, 8, 9, len(whole) - 1}:
+                self.assertEqual(run("calls", calls=call(self.COUNTS) + whole[:end]), "tally 0 0\nstopped\n")
+
+    def test_what_is_no_call_stops(self):
+        for wrong in [b"\0", b"\xff", call(self.LABEL, 0, string=b"x" * 65537)]:
+            self.assertEqual(run("calls", calls=wrong + call(self.COUNTS)), "stopped\n")
+
+    def test_the_longest_byte_string(self):
+        self.assertEqual(run("calls", calls=call(self.LABEL, 0, string=b"AB\n" + b"x" * 65533)), "label no 0 4142\n")
+        self.assertEqual(run("calls", calls=call(self.LOAD, string=K + bytes(65536 - len(K)))), "load no 8 place 34 path 0\n")
+
+    def test_a_tally_past_32_bits(self):
+        self.assertEqual(run("calls", calls=call(self.TALLY, 2**64 - 1, 2**32) + call(self.COUNTS)), "tally 4294967295 4294967295\n")
+
+    def test_more_lines_than_a_page_holds(self):
+        asked = call(self.LOAD, string=K) + call(self.POWER, 0, 2) * 20000
+        self.assertEqual(run("calls", calls=asked), "load no 0 place 0 path 0\n" + "power no 0 value 100\n" * 20000)
 
 
 if __name__ == "__main__":

@@ -60,8 +60,31 @@ impl Curve {
     }
 }
 
+/// Which ticks of a deadline are usable: under B one in every full 64 is guard.
+#[derive(Clone, Copy, Debug, Default, PartialEq, Eq)]
+pub enum Rule {
+    #[default]
+    A,
+    B,
+}
+
+/// What a load names for rule A.
+pub const RULE_A: u64 = 0;
+
+impl Rule {
+    /// The rule of a number: refusal 22.
+    pub fn named(number: u64) -> Result<Rule, Refusal> {
+        match number {
+            0 => Ok(Rule::A),
+            1 => Ok(Rule::B),
+            _ => Err(Refusal::at(22, 0)),
+        }
+    }
+}
+
 #[derive(Clone, Debug, PartialEq, Eq)]
 pub struct Board {
+    pub rule: Rule,
     pub deadline: u32,
     pub curves: Vec<Curve>,
     /// An ordered set: ascending by from, then to, and no link twice.
@@ -89,6 +112,24 @@ impl Board {
             && self.links.iter().all(|&(from, to)| from != to && from < self.parts() && to < self.parts())
     }
 
+    /// The ticks that a path may take.
+    pub fn usable(&self) -> u32 {
+        match self.rule {
+            Rule::A => self.deadline,
+            Rule::B => self.deadline - self.deadline / 64,
+        }
+    }
+
+    /// The ticks of a link itself: none.
+    pub fn wire(&self, _link: (usize, usize)) -> u32 {
+        0
+    }
+
+    /// When a link brings the end of its first part to its second.
+    pub fn arrival(&self, link: (usize, usize), ends: &[u32]) -> u32 {
+        ends[link.0] + self.wire(link)
+    }
+
     pub fn fastest(&self) -> Vec<u32> {
         self.curves.iter().map(|curve| curve.fastest).collect()
     }
@@ -104,9 +145,9 @@ impl Board {
         while moved {
             moved = false;
             for &(from, to) in &self.links {
-                let end = starts[from] + delays[from];
-                if starts[to] < end {
-                    starts[to] = end;
+                let arrival = starts[from] + delays[from] + self.wire((from, to));
+                if starts[to] < arrival {
+                    starts[to] = arrival;
                     moved = true;
                 }
             }
@@ -146,6 +187,13 @@ impl Board {
         (0..self.parts()).filter(|&other| self.downstream(other).contains(&part)).collect()
     }
 
+    /// Upstream and downstream of every part; each downstream is found once.
+    pub fn cones(&self) -> Vec<(BTreeSet<usize>, BTreeSet<usize>)> {
+        let down: Vec<_> = (0..self.parts()).map(|part| self.downstream(part)).collect();
+        let up = |part| (0..self.parts()).filter(|&other| down[other].contains(&part)).collect();
+        (0..self.parts()).map(|part| (up(part), down[part].clone())).collect()
+    }
+
     pub fn lowest_part_on_a_loop(&self) -> Option<usize> {
         (0..self.parts()).find(|&part| self.after(part).contains(&part))
     }
@@ -159,11 +207,11 @@ impl Board {
     pub fn slow_path(&self) -> Vec<usize> {
         let ends = self.times(&self.fastest()).ends;
         let mut path = Vec::new();
-        let mut next = lowest_of_greatest(0..self.parts(), &ends);
+        let mut next = lowest_of_greatest(ends.iter().copied().enumerate());
         while let Some(part) = next {
             path.push(part);
             let before = (0..self.parts()).filter(|&other| self.links.contains(&(other, part)));
-            next = lowest_of_greatest(before, &ends);
+            next = lowest_of_greatest(before.map(|other| (other, self.arrival((other, part), &ends))));
         }
         path.reverse();
         path
@@ -175,7 +223,7 @@ impl Board {
             return Err(Refusal::at(9, part));
         }
         let ticks = self.fastest_path_ticks();
-        if ticks > self.deadline {
+        if ticks > self.usable() {
             let mut refusal = Refusal::at(10, ticks as usize);
             refusal.path = self.slow_path();
             return Err(refusal);
@@ -188,9 +236,10 @@ fn greatest(ends: &[u32]) -> u32 {
     ends.iter().copied().max().unwrap_or(0)
 }
 
-/// `parts` ascend, so the first that no other exceeds is the lowest.
-fn lowest_of_greatest(parts: impl Iterator<Item = usize>, ends: &[u32]) -> Option<usize> {
-    let parts: Vec<usize> = parts.collect();
-    let most = parts.iter().map(|&part| ends[part]).max()?;
-    parts.into_iter().find(|&part| ends[part] == most)
+/// `parts` ascend, each with its ticks, so the first that no other exceeds is
+/// the lowest.
+fn lowest_of_greatest(parts: impl Iterator<Item = (usize, u32)>) -> Option<usize> {
+    let parts: Vec<(usize, u32)> = parts.collect();
+    let most = parts.iter().map(|&(_, ticks)| ticks).max()?;
+    parts.into_iter().find(|&(_, ticks)| ticks == most).map(|(part, _)| part)
 }

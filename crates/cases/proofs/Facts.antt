@@ -17,7 +17,7 @@ use Rattle.board.specs.declared.Rule.the-variants.{A}
 use Rattle.board.specs.declared.Board.{Board}
 use Rattle.board.specs.Board.{usable, view, blankCurve, usableUnder, delayOf}
 use Rattle.board.specs.Tests.{blankCurves, blankLinks, belowOf}
-use Rattle.edits.specs.Edits.{countBefore, placeOf, hasLinkOf, filled, insertedAt, insertedOf, removedAt, removedOf, addable, withDeadlineOf, withLinkOf, withoutLinkOf}
+use Rattle.edits.specs.Edits.{countBefore, placeOf, some, sameEnds, hasLinkOf, filled, insertedAt, insertedOf, removedAt, removedOf, addable, withDeadlineOf, withLinkOf, withoutLinkOf}
 use Rattle.fields.specs.Parse.{got, and-then, repeat, rangedAt, fieldAt}
 use Rattle.fields.specs.Writing.{inRow}
 use Rattle.fields.specs.CurveFile.{bare, falls, runFrom, runsFrom, curveFrom, runsBytes, curveBytes}
@@ -81,7 +81,7 @@ pub record Changes : Type 0 where
   pub shorten : changedOf K (plainly (Deadline (record { 0 = 9 }))) ≡ shorterK
 
 pub changes : Changes
-unfolding changedOf withDeadlineOf withLinkOf withoutLinkOf addable hasLinkOf placeOf countBefore insertedOf insertedAt removedOf removedAt filled
+unfolding changedOf withDeadlineOf withLinkOf withoutLinkOf addable hasLinkOf sameEnds some placeOf countBefore insertedOf insertedAt removedOf removedAt filled
     belowOf sum pick orderOf kindFrom deadlineFrom orders.linkFrom and-then fieldAt rangedAt numberAt groupsFrom shortestEnd K linkedK shorterK
     curve board
 changes = record {

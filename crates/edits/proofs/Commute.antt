@@ -16,7 +16,7 @@ use Rattle.board.specs.declared.Link.{Link}
 use Rattle.board.specs.declared.Board.{Board}
 use Rattle.board.specs.Board.{WellFormed, Linked, Has, plainLink, noCurve}
 use Rattle.board.proofs.SameBoard.{Alike, same-board, whole-linked}
-use Rattle.edits.specs.Edits.{countBefore, placeOf, hasLinkOf, addable, withDeadlineOf, withCurveOf, withLinkOf, withoutLinkOf}
+use Rattle.edits.specs.Edits.{countBefore, placeOf, some, sameEnds, hasLinkOf, addable, withDeadlineOf, withCurveOf, withLinkOf, withoutLinkOf}
 use Rattle.edits.specs.Changes.{Ends, Addable, LinksOnly, LinkAdded, LinkRemoved}
 use Rattle.edits.proofs.LinkEdits.{with-link-well, with-link-added, without-link-well, without-link-removed}
 
@@ -145,20 +145,20 @@ module _ (b : Board) (d : Ticks) where
   deadline-curve p c = refl
 
   pub deadline-add : (f t : ℕ) → withLinkOf (withDeadlineOf b d) f t ≡ withDeadlineOf (withLinkOf b f t) d
-  unfolding withLinkOf withDeadlineOf addable hasLinkOf placeOf countBefore
+  unfolding withLinkOf withDeadlineOf addable hasLinkOf sameEnds some placeOf countBefore
   deadline-add f t = refl
 
   pub deadline-remove : (f t : ℕ) → withoutLinkOf (withDeadlineOf b d) f t ≡ withDeadlineOf (withoutLinkOf b f t) d
-  unfolding withoutLinkOf withDeadlineOf hasLinkOf placeOf countBefore
+  unfolding withoutLinkOf withDeadlineOf hasLinkOf sameEnds some placeOf countBefore
   deadline-remove f t = refl
 
 module _ (b : Board) (p : ℕ) (c : Curve) where
   pub curve-add : (f t : ℕ) → withLinkOf (withCurveOf b p c) f t ≡ withCurveOf (withLinkOf b f t) p c
-  unfolding withLinkOf withCurveOf addable hasLinkOf placeOf countBefore
+  unfolding withLinkOf withCurveOf addable hasLinkOf sameEnds some placeOf countBefore
   curve-add f t = refl
 
   pub curve-remove : (f t : ℕ) → withoutLinkOf (withCurveOf b p c) f t ≡ withCurveOf (withoutLinkOf b f t) p c
-  unfolding withoutLinkOf withCurveOf hasLinkOf placeOf countBefore
+  unfolding withoutLinkOf withCurveOf hasLinkOf sameEnds some placeOf countBefore
   curve-remove f t = refl
 
 -- two curves of different parts

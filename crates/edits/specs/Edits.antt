@@ -1,7 +1,7 @@
 -- 01, Files: "1: deadline. 2: from, to, a link to add. 3: from, to, a link to remove. 4: part, then a whole new curve." What a board is after each.
 -- The subtle point: links stay in ascending order, so a link is put in at its place and not at the end (proofs/LinkEdits says what changed).
 -- Assumes nothing.
-use mathlib.Core.Bool.{Bool, false, not}
+use mathlib.Core.Bool.{Bool, true, false, not}
 use mathlib.Core.List.{List}
 use Prim.Native.Nat.{ℕ, zero, suc, _+_, _-_}
 use lib.Dec.{ltb, leb, eqb}
@@ -23,12 +23,17 @@ countBefore b x n = sum n (λ l. belowOf (linkAt b l) x)
 unfoldable pub placeOf : Board → Link → ℕ
 placeOf b x = pick (leb (b .links) 256) (countBefore b x (b .links)) 0
 
--- a link with the ends of x stands at its place
+-- a test passes at some number below n
+unfoldable pub some : ℕ → (ℕ → Bool) → Bool
+some zero p = false
+some (suc n) p = pick (p n) true (some n p)
+
+unfoldable pub sameEnds : Link → Link → Bool
+sameEnds a x = pick (eqb (a .from) (x .from)) (eqb (a .to) (x .to)) false
+
+-- a link is there: some link has these ends
 unfoldable pub hasLinkOf : Board → Link → Bool
-hasLinkOf b x =
-    pick (ltb (placeOf b x) (b .links))
-    (pick (eqb (linkAt b (placeOf b x) .from) (x .from)) (eqb (linkAt b (placeOf b x) .to) (x .to)) false)
-    false
+hasLinkOf b x = pick (leb (b .links) 256) (some (b .links) (λ l. sameEnds (linkAt b l) x)) false
 
 -- a row whose first n places hold f of their number, and the others what they held
 unfoldable pub filled : List Link → (ℕ → Link) → ℕ → List Link

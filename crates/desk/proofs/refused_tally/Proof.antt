@@ -16,11 +16,11 @@ is-counted-requires c κs = search needs
 returns : tie.Need-returns
 returns c = search (not-counted)
 
-add-t5 : tie.Need-add-t5
-add-t5 c = search (count-fits)
+add-t6 : tie.Need-add-t6
+add-t6 c = search (count-fits)
 
 returns-2 : tie.Need-returns-2
 returns-2 c = search (one-counted)
 
 pub refused-tally-spec : {M : Type 1} → statement M
-refused-tally-spec = tie.close (tie.spec number-requires is-counted-requires returns add-t5 returns-2)
+refused-tally-spec = tie.close (tie.spec number-requires is-counted-requires returns add-t6 returns-2)
