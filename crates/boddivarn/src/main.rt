@@ -124,7 +124,7 @@ fn print_table(page: &mut [u8; PAGE], d: Desk, names: &[u8]) {
         print_part(page, d, p, names);
         p = p + 1;
     }
-    let total = console::number(page, 0, b"total ", whole.total);
+    let total = console::number(page, 0, b"total ", whole.total.0);
     print_line(page, total);
 }
 
