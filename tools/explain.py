@@ -3,6 +3,7 @@ from dataclasses import dataclass, field
 
 import datafile
 from boardtext import namer
+from faults import one_fault
 from model import usable_deadline
 
 
@@ -131,13 +132,18 @@ def stopped(story):
 # ---- bytes
 
 
+def bytes_of(source, of_orders):
+    """The name, the bytes and the numbers of the design file or of the orders."""
+    if of_orders:
+        return source.orders_name, source.orders_data, source.order_fields
+    return source.board_name, source.board_data, source.fields
+
+
 def byte_words(source, place, of_orders=False):
     """Where a byte of the design file or of the orders comes from, and what number it is of."""
-    name, data = (source.orders_name, source.orders_data) if of_orders else (source.board_name, source.board_data)
-    found = datafile.field_at(source.order_fields if of_orders else source.fields, place)
-    if found is None or place > len(data):
-        return f"{name}: byte {place}", "there is no such byte"
-    where = line_of(source, found.key) if not name.endswith(".dat") else None
+    name, data, fields = bytes_of(source, of_orders)
+    found = datafile.field_at(fields, place)
+    where = None if name.endswith(".dat") else line_of(source, found.key)
     past = "the end, after " if place == len(data) else ""
     return where or f"{name}: byte {place}", past + found.what
 
@@ -152,13 +158,14 @@ def line_of(source, key):
 
 
 def byte_line(source, place, of_orders=False):
-    """A byte of a packed file, for people: its number, and the line that it comes from, as `unpack` would write it where there is no text."""
-    where, words = byte_words(source, place, of_orders)
+    """A byte of a packed file, for people: its number, and its line, as `unpack` would write it where there is no text."""
+    name, data, fields = bytes_of(source, of_orders)
     file = "orders.dat" if of_orders else "board.dat"
-    said = f"byte {place} of {file}: {words}"
-    found = datafile.field_at(source.order_fields if of_orders else source.fields, place)
-    line = unpacked_line(source, found.key) if found else None
-    return f"{where}: {said}" + (f", in `{line}`" if line else "")
+    if place >= len(data):
+        raise one_fault(name, f"there is no byte {place}; {file} has {len(data)} bytes")
+    where, words = byte_words(source, place, of_orders)
+    line = unpacked_line(source, datafile.field_at(fields, place).key)
+    return f"{where}: byte {place} of {file}: {words}" + (f", in `{line}`" if line else "")
 
 
 def unpacked_line(source, key):

@@ -15,7 +15,7 @@ h1 { font-size: 1.5em; margin: 0 0 .3em; overflow-wrap: anywhere; }
 h2 { font-size: 1.15em; margin: 1.8em 0 .5em; border-bottom: 2px solid #00558b; padding-bottom: .15em; }
 p { margin: .5em 0; }
 .wide { overflow-x: auto; }
-table { border-collapse: collapse; font-variant-numeric: tabular-nums; font-size: .92em; }
+table { border-collapse: separate; border-spacing: 0; font-variant-numeric: tabular-nums; font-size: .92em; }
 th, td { padding: 2px 10px; text-align: right; border-bottom: 1px solid #c8ccd0; white-space: nowrap; }
 th { background: #eef2f5; vertical-align: bottom; }
 th.name, td.name { text-align: left; }
@@ -27,10 +27,13 @@ tr.total td { font-weight: bold; border-top: 2px solid #111; }
 .drawn svg { max-width: 100%; height: auto; }
 .refusal { border-left: 6px solid #b34700; padding: .2em 0 .2em .9em; margin: .8em 0; break-inside: avoid; }
 .refusal p, li { overflow-wrap: anywhere; }
-td.name, th.name { position: sticky; left: 0; background: #fff; }
-th.name { background: #eef2f5; }
 .facts { font-size: 1.1em; }
-@media (max-width: 640px) { body { font-size: 13px; padding: 10px; } th, td { padding: 2px 5px; } }
+@media screen and (max-width: 640px) {
+  body { font-size: 13px; padding: 10px; }
+  th, td { padding: 2px 5px; }
+  td.name, th.name { position: sticky; left: 0; }
+  td.name { background: #fff; }
+}
 .note { color: #444; font-size: .92em; }
 @media print {
   body { font-size: 10pt; max-width: none; padding: 0; }
@@ -59,16 +62,17 @@ def page(source):
     """The story, and its page; of a refused board too."""
     story = tell(source, changes=True)
     refusals = explain.refusals(story)
-    body = [tag("h1", said(f"Board {source.board_name}")), tag("p", "<br>".join(map(said, facts(story))), class_="facts"), refused(story, refusals)]
+    body = [tag("h1", said(f"Board {source.board_name}")), tag("p", "<br>".join(map(said, facts(story))), class_="facts")]
+    body += [tag("p", said(WORDS), class_="note"), refused(story, refusals)]
     if not story.load.no:
-        body += [plan_table(story), drawing(story), views(story), paths(story), orders(story), tag("p", said(FOOT), class_="note")]
+        body += [plan_table(story), drawing(story), views(story), paths(story), orders(story)]
     return story, whole(source.board_name, "\n".join(part for part in body if part))
 
 
 MOST_ORDERS, MOST_DRAWN = 200, 40  # of a long row the first, and how many more there are
-FOOT = (
-    "Delays in ticks, powers in microwatts. The delays are those of the proved planner: no choice within the deadline has a lower total, and of the equally"
-    " cheap ones this is the earliest. A diamond marks a part on a critical path."
+WORDS = (
+    "Delays in ticks, powers in microwatts. What is held is the proved planner's choice: none within the deadline has a lower total, and of the equally cheap"
+    " ones it is the earliest. A diamond marks a part on a critical path. What is refused changes nothing."
 )
 
 

@@ -93,8 +93,17 @@ def shared():
         yield
         return
     with file:
-        fcntl.flock(file, fcntl.LOCK_SH)
+        take_lock(file, fcntl.LOCK_SH, "another run is building the programs; waiting for it")
         yield
+
+
+def take_lock(file, kind, words):
+    """Says so where it must wait."""
+    try:
+        fcntl.flock(file, kind | fcntl.LOCK_NB)
+    except BlockingIOError:
+        say(words)
+        fcntl.flock(file, kind)
 
 
 @contextlib.contextmanager
@@ -124,11 +133,7 @@ def build():
     except OSError as error:
         raise CannotRun(f"the programs must be built anew, and {TARGET} cannot be written: {error.strerror}. Build where it can") from None
     with file:
-        try:
-            fcntl.flock(file, fcntl.LOCK_EX | fcntl.LOCK_NB)
-        except BlockingIOError:
-            say("another run is building the programs or running them; waiting for it")
-            fcntl.flock(file, fcntl.LOCK_EX)
+        take_lock(file, fcntl.LOCK_EX, "another run is building the programs or running them; waiting for it")
         if not is_current():
             prove()
 
