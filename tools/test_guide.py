@@ -66,7 +66,8 @@ class Documents(unittest.TestCase):
     def test_files_that_are_named_are_there(self):
         for name in DOCUMENTS:
             for path in re.findall(r"`((?:docs|tools|examples|bench|crates|trials|\.ci)/[\w./-]+)`", read(name)):
-                self.assertTrue(os.path.exists(os.path.join(programs.ROOT, path)), f"{name}: {path}")
+                if "NAME" not in path and path != "docs/requests/":  # which comes with the first request
+                    self.assertTrue(os.path.exists(os.path.join(programs.ROOT, path)), f"{name}: {path}")
 
 
 if __name__ == "__main__":
