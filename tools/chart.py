@@ -1,5 +1,6 @@
 """The timing chart: a row for each part, its bar from start to end, what it may still wait, and what is critical."""
 import svg
+from model import counted
 from report import critical_parts
 from story import tell
 
@@ -31,13 +32,13 @@ def chart_of(story, prefix="chart"):
         svg.element("defs", svg.arrow_head(f"{prefix}-arrow"), svg.hatch(f"{prefix}-spare", "#5a6570")),
         heading(story), legend(state, prefix), axis(scale), *rows, *links(state, scale, prefix), deadline(state, scale),
     ]
-    words = f"Timing chart of {story.source.board_name}: {len(state.parts)} parts, usable deadline {state.last_tick}, total {state.total}"
+    words = f"Timing chart of {story.source.board_name}: {counted(len(state.parts), 'part')}, usable deadline {state.last_tick}, total {state.total}"
     return svg.drawing(LEFT + WIDTH + RIGHT, scale.bottom + FOOT, words, *inside, data_left=LEFT, data_tick=repr(scale.each))
 
 
 def heading(story):
     state = story.state
-    words = f"{story.source.board_name}: total {state.total} microwatts, {story.taken} orders taken, {story.refused} refused"
+    words = f"{story.source.board_name}: total {state.total} microwatts, {counted(story.taken, 'order')} taken, {story.refused} refused"
     return svg.text(16, 22, words, font_size=15, font_weight="bold")
 
 
@@ -102,7 +103,7 @@ def row(story, scale, part, critical, prefix):
         out.append(span("late", scale, first, last, y, prefix, part, f"{name} at the latest: starts {first}, delay {slow}, ends {last}"))
     if state.latest_ends is not None and state.latest_ends[part] > end:
         latest = state.latest_ends[part]
-        out.append(span("spare", scale, end, latest, y, prefix, part, f"{name}: {latest - end} spare ticks"))
+        out.append(span("spare", scale, end, latest, y, prefix, part, f"{name}: {counted(latest - end, 'spare tick')}"))
     words = f"{name}: starts {start}, delay {delay}, ends {end}, power {power}"
     out.append(span("critical" if critical else "bar", scale, start, end, y, prefix, part, words))
     inside = scale.each * delay > 9 * len(str(delay))

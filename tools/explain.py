@@ -4,7 +4,7 @@ from dataclasses import dataclass, field
 import datafile
 from boardtext import namer
 from faults import one_fault
-from model import usable_deadline
+from model import counted, usable_deadline
 
 
 @dataclass
@@ -72,7 +72,7 @@ def slow(source, board, answer):
     path = list(answer.path)
     delays = ", the delays of their links included" if any(board.links.get(pair) for pair in zip(path, path[1:])) else ""
     takes = "take" if len(path) > 1 else "takes"
-    words = f"{', '.join(map(source.name, path))} {takes} {answer.place} ticks at {'their' if len(path) > 1 else 'its'} fastest{delays}"
+    words = f"{', '.join(map(source.name, path))} {takes} {counted(answer.place, 'tick')} at {'their' if len(path) > 1 else 'its'} fastest{delays}"
     guard = f" (deadline {board.deadline} leaves {usable} under rule B)" if usable != board.deadline else ""
     return Refusal("", "", 10, f"{words}, {answer.place - usable} too many{guard}", path)
 
@@ -125,7 +125,7 @@ def stopped(story):
     place = source.read_to + story.stopped.place
     where, words = byte_words(source, place, of_orders=True)
     left = len(source.orders_data) - source.read_to
-    words = f"{fault_words(source, where, words)}; {len(source.orders)} orders before it were read, and the last {left} bytes are no order"
+    words = f"{fault_words(source, where, words)}; orders before it that were read: {len(source.orders)}; bytes from there on: {left}"
     return Refusal(where, "the orders stop here", story.stopped.no, words)
 
 

@@ -15,6 +15,7 @@ import worth
 from boardtext import board_text, order_text
 from faults import CannotRun, InputFaults, WrongUse, one_fault
 from limits import READS
+from model import counted
 from sources import source_of
 from story import tell
 
@@ -58,9 +59,9 @@ def check(words):
     if source.faults:
         raise InputFaults(source.faults)
     board = source.board
-    print(f"{source.board_name}: {len(board.curves)} parts, {len(board.links)} links, deadline {board.deadline}: no fault in the text")
+    print(f"{source.board_name}: {counted(len(board.curves), 'part')}, {counted(len(board.links), 'link')}, deadline {board.deadline}: no fault")
     if source.orders_name:
-        print(f"{source.orders_name}: {len(source.orders)} orders: no fault in the text")
+        print(f"{source.orders_name}: {counted(len(source.orders), 'order')}: no fault")
     return DONE
 
 
@@ -149,10 +150,11 @@ def pack(words):
     """The files that the program reads."""
     source = source_of(words.board, words.orders)
     say_notes(source)
-    for name, data in (("board.dat", source.board_data), ("orders.dat", source.orders_data), ("names.txt", source.sheet)):
+    files = {"board.dat": source.board_data, "orders.dat": source.orders_data, "names.txt": source.sheet}
+    for name, data in files.items():
         if len(data) > READS[name]:
             raise one_fault(os.path.join(words.out, name), f"would have {len(data)} bytes, and the program reads {READS[name]}")
-        write_file(os.path.join(words.out, name), data)
+    write_into(words.out, files)
     return DONE
 
 
@@ -168,11 +170,10 @@ def unpack(words):
         texts["board.txt"] = board_text(source.board, source.names)
     if source.orders:
         texts["orders.txt"] = order_text([line.order for line in source.orders], source.names)
-    for name, text in texts.items():
-        if words.out:
-            write_file(os.path.join(words.out, name), text.encode("ascii"))
-        else:
-            print(f"# {name}\n{text}", end="")
+    if words.out:
+        write_into(words.out, {name: text.encode("ascii") for name, text in texts.items()})
+    else:
+        print("".join(f"# {name}\n{text}" for name, text in texts.items()), end="")
     if source.faults:
         raise InputFaults(source.faults)
     return DONE
@@ -199,11 +200,20 @@ def give(text, out):
         sys.stdout.write(text)
 
 
+def write_into(folder, files):
+    """Files of a folder, which is made where it is missing."""
+    try:
+        os.makedirs(folder, exist_ok=True)
+    except OSError as error:
+        raise one_fault(folder, f"cannot be written: {error.strerror}") from None
+    for name, data in files.items():
+        write_file(os.path.join(folder, name), data)
+
+
 def write_file(path, data):
     """A whole file or none."""
     folder = os.path.dirname(path) or "."
     try:
-        os.makedirs(folder, exist_ok=True)
         handle, draft = tempfile.mkstemp(dir=folder, prefix=".boddivarn-")
         with os.fdopen(handle, "wb") as file:
             file.write(data)
@@ -229,6 +239,9 @@ def count(word):
     return int(word)
 
 
+BOARD = "a board text, or a folder with board.txt, or with board.dat and names.txt"
+
+
 def add_word(words, name, do, what, more="", out=None, board="BOARD"):
     parser = words.add_parser(
         name, help=what, description=f"{what[0].upper()}{what[1:]}.{' ' + more if more else ''}", epilog=STATUS, allow_abbrev=False
@@ -236,7 +249,7 @@ def add_word(words, name, do, what, more="", out=None, board="BOARD"):
     parser.set_defaults(do=do)
     if board:
         optional = {"nargs": "?"} if board != "BOARD" else {}
-        parser.add_argument("board", metavar=board, help="a board text, or a folder with board.txt, or with board.dat and names.txt", **optional)
+        parser.add_argument("board", metavar=board, help=BOARD + ("; or a refusal's number" if optional else ""), **optional)
         parser.add_argument("orders", metavar="ORDERS", nargs="?", help="an order text; of a folder its orders.txt or orders.dat where none is named")
     if out:
         parser.add_argument("--out", metavar="FILE", help=f"where the {out} goes (default: standard output)")

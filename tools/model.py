@@ -64,3 +64,8 @@ class Order:
 def usable_deadline(deadline, rule):
     """Under rule B one tick in every full 64 of the deadline is guard."""
     return deadline - deadline // 64 if rule == "B" else deadline
+
+
+def counted(number, word):
+    """A number of things, in words."""
+    return f"{number} {word}" if number == 1 else f"{number} {word}s"

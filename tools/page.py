@@ -5,6 +5,7 @@ import explain
 import report
 from chart import chart_of
 from drawn import drawn_refusal
+from model import counted
 from story import tell
 
 STYLE = """
@@ -83,7 +84,7 @@ def facts(story):
         yield from report.facts(story)
         return
     if board is not None:
-        yield f"{len(board.curves)} parts, {len(board.links)} links, deadline {board.deadline}"
+        yield f"{counted(len(board.curves), 'part')}, {counted(len(board.links), 'link')}, deadline {board.deadline}"
     yield "The board is refused; no budget is held."
 
 

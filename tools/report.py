@@ -1,6 +1,7 @@
 """What is held, for people: each part, the critical paths, the totals; and what each order changed."""
 import asked
 import explain
+from model import counted
 from story import tell
 
 MOST_PATHS = 20
@@ -107,7 +108,7 @@ def facts(story):
     state, board = story.state, story.ledger.board
     guard = f", {state.usable} usable under rule {state.rule}" if state.usable not in (None, state.deadline) else ""
     end = max(end for _, _, end, _ in state.parts)
-    yield f"{len(board.curves)} parts, {len(board.links)} links, deadline {state.deadline}{guard}"
+    yield f"{counted(len(board.curves), 'part')}, {counted(len(board.links), 'link')}, deadline {state.deadline}{guard}"
     yield f"total {state.total} microwatts, last end {end} of {state.last_tick} ticks"
     yield f"orders {story.taken} taken {story.refused} refused" + (", and the rest cannot be read" if story.stopped else "")
 
@@ -116,7 +117,7 @@ def path_lines(story):
     paths, count = critical_paths(story.state)
     if not paths:
         end = max(end for _, _, end, _ in story.state.parts)
-        yield f"critical paths: none; the last end is {end}, {story.state.last_tick - end} ticks before the deadline"
+        yield f"critical paths: none; the last end is {end}, {counted(story.state.last_tick - end, 'tick')} before the deadline"
         return
     yield f"critical paths: {count}"
     for path in paths:

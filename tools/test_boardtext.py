@@ -164,6 +164,43 @@ class Board(unittest.TestCase):
             self.assertLessEqual(len(board_bytes(said.board)), limits.READS["board.dat"])
 
 
+class Anything(unittest.TestCase):
+    """Any bytes at all are read, or their faults are said; nothing else comes of them."""
+
+    def test_words_in_any_order(self):
+        draw, words = random.Random(1), K_TEXT.split() + [b"@3", b"@99", b"1@2", b"-1", b"\xff", b"#", b"\0", b"9" * 30, b"rule", b"delay"]
+        for _ in range(2000):
+            text = b"\n".join(b" ".join(draw.choices(words, k=draw.randint(0, 9))) for _ in range(draw.randint(0, 12)))
+            read_board(text, "b")
+            read_orders(text, ["AMP", "VIA"], "o")
+
+    def test_a_text_with_damage(self):
+        draw, good = random.Random(2), 0
+        for _ in range(2000):
+            text = bytearray(K_TEXT)
+            for _ in range(draw.randint(1, 3)):
+                at = draw.randrange(len(text))
+                text[at:at + draw.randint(0, 1)] = bytes(draw.choices(range(256), k=draw.randint(0, 1)))
+            said, faults = read_board(bytes(text), "b")
+            if not faults:
+                good += 1
+                self.assertEqual(board_of(board_bytes(said.board)), said.board)
+        self.assertGreater(good, 100)
+
+    def test_files_with_damage(self):
+        draw, good = random.Random(3), 0
+        for _ in range(2000):
+            data = bytearray(K_FILE)
+            for _ in range(draw.randint(1, 3)):
+                data[draw.randrange(len(data))] = draw.randrange(256)
+            try:
+                self.assertEqual(board_bytes(board_of(bytes(data))), bytes(data))
+                good += 1
+            except InputFaults as fault:
+                self.assertRegex(str(fault), r"^b: byte \d+: ")
+        self.assertGreater(good, 50)
+
+
 def random_board(draw):
     count = draw.randint(1, 64)
     text = f"deadline {draw.randint(1, 4095)}\n"

@@ -34,6 +34,8 @@ class Guide(unittest.TestCase):
             self.assertRegex(self.text, rf"(?m)^\| {heading} \| {low:,} \| {high:,} \|")
         for name, most in limits.READS.items():
             self.assertRegex(self.text, rf"`{name}` \((the first )?{most:,}")
+        groups = {3: "three", 4: "four"}[limits.MOST_GROUPS]
+        self.assertIn(f"A number has at most {groups} groups", " ".join(self.text.split()))
         self.assertIn(f"**Parts**, 1 to {limits.MOST_PARTS},", self.text)
         self.assertIn(f"**Links**, 0 to {limits.MOST_LINKS},", self.text)
 

@@ -190,7 +190,7 @@ class Refused(unittest.TestCase):
         self.write("k/board.dat", data)
         self.write("k/orders.dat", bytes.fromhex("0109 0203 8000"))
         self.assertEqual(self.run_words("plan", "k")[2], "k/orders.dat: byte 4: the orders stop here (2): the to of order 2 is not in its shortest form;"
-                         " 1 orders before it were read, and the last 4 bytes are no order\n")
+                         " orders before it that were read: 1; bytes from there on: 4\n")
 
     def test_bytes(self):
         self.write("board.txt", self.BOARD)
@@ -270,7 +270,7 @@ class BadInput(unittest.TestCase):
 
     def test_files_that_cannot_be_written(self):
         os.mkdir(os.path.join(self.place, "folder"))
-        for words in (["chart", "good.txt", "--out", "folder"], ["page", "good.txt", "--out", "good.txt/x.html"], ["save", "good.txt", "--out", "/proc/none"],
+        for words in (["chart", "good.txt", "--out", "folder"], ["page", "good.txt", "--out", "good.txt/x.html"], ["save", "good.txt", "--out", "nowhere/saved.txt"],
                       ["pack", "good.txt", "--out", "good.txt"], ["pack", "good.txt", "--out", "/proc/none"], ["worth", "good.txt", "--svg", "folder"]):
             self.assertRegex(self.said(*words), r": cannot be written: .*\n")
         self.assertEqual(os.listdir(os.path.join(self.place, "folder")), [])
