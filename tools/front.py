@@ -240,20 +240,29 @@ def count(word):
 
 
 BOARD = "a board text, or a folder with board.txt, or with board.dat and names.txt"
+ORDERS = "an order text; of a folder its orders.txt or orders.dat where none is named"
 
 
-def add_word(words, name, do, what, more="", out=None, board="BOARD"):
-    parser = words.add_parser(
-        name, help=what, description=f"{what[0].upper()}{what[1:]}.{' ' + more if more else ''}", epilog=STATUS, allow_abbrev=False
-    )
+def add_word(words, name, do, what, more=""):
+    """A word that takes no board."""
+    described = f"{what[0].upper()}{what[1:]}.{' ' + more if more else ''}"
+    parser = words.add_parser(name, help=what, description=described, epilog=STATUS, allow_abbrev=False)
     parser.set_defaults(do=do)
-    if board:
-        optional = {"nargs": "?"} if board != "BOARD" else {}
-        parser.add_argument("board", metavar=board, help=BOARD + ("; or a refusal's number" if optional else ""), **optional)
-        parser.add_argument("orders", metavar="ORDERS", nargs="?", help="an order text; of a folder its orders.txt or orders.dat where none is named")
-    if out:
-        parser.add_argument("--out", metavar="FILE", help=f"where the {out} goes (default: standard output)")
     return parser
+
+
+def add_board_word(words, name, do, what, more=""):
+    """A word that takes a board and orders."""
+    parser = add_word(words, name, do, what, more)
+    parser.add_argument("board", metavar="BOARD", help=BOARD)
+    parser.add_argument("orders", metavar="ORDERS", nargs="?", help=ORDERS)
+    return parser
+
+
+def add_made(words, name, do, what):
+    """A word that takes a board and makes something."""
+    parser = add_board_word(words, name, do, what)
+    parser.add_argument("--out", metavar="FILE", help="where it goes (default: standard output)")
 
 
 def parser_of():
@@ -262,33 +271,39 @@ def parser_of():
         description="Gives each part of a board a delay, so that the board keeps its deadline at the least power. docs/GUIDE.md says more.",
     )
     words = parser.add_subparsers(metavar="WORD", required=True)
-    add_word(words, "plan", plan, "print the held budget of a board after its orders", "Where something is refused, why is said on standard error.")
-    add_word(words, "check", check, "say every fault of a board text and its orders, with file and line", "Loops and time are the planner's: see plan.")
-    explained = add_word(words, "explain", explain_word, "say in words what is refused", "A number alone gives the guide's entry for it.", board="BOARD|NUMBER")
-    explained.add_argument("--byte", type=count, metavar="N", help="say what byte N of board.dat is, and from which line it comes")
-    explained.add_argument("--order-byte", type=count, metavar="N", help="the same of orders.dat")
+    add_board_word(words, "plan", plan, "print the held budget of a board after its orders", "Why something is refused is said on standard error.")
+    add_board_word(words, "check", check, "say every fault of a board text and its orders, with file and line", "Loops and time are the planner's: see plan.")
+    add_explain(words)
     add_report(words)
-    add_word(words, "chart", chart_word, "draw a timing chart (SVG)", out="chart")
-    add_word(words, "page", page_word, "write all that is to be known of a board as one HTML file", out="page")
+    add_made(words, "chart", chart_word, "draw a timing chart (SVG)")
+    add_made(words, "page", page_word, "write all that is to be known of a board as one HTML file")
     add_worth(words)
-    add_word(words, "save", save, "print the board after its orders as text, names kept", out="text")
-    packed = add_word(words, "pack", pack, "write board.dat, orders.dat and names.txt for the program")
+    add_made(words, "save", save, "print the board after its orders as text, names kept")
+    packed = add_board_word(words, "pack", pack, "write board.dat, orders.dat and names.txt for the program")
     packed.add_argument("--out", metavar="DIR", required=True, help="the folder to write to")
-    unpacked = add_word(words, "unpack", unpack, "print board.dat and orders.dat of a folder as text", board=None)
+    unpacked = add_word(words, "unpack", unpack, "print board.dat and orders.dat of a folder as text")
     unpacked.add_argument("folder", metavar="DIR")
     unpacked.add_argument("--out", metavar="DIR", help="write board.txt and orders.txt there instead")
     return parser
 
 
+def add_explain(words):
+    parser = add_word(words, "explain", explain_word, "say in words what is refused", "A number alone gives the guide's entry for it.")
+    parser.add_argument("board", metavar="BOARD|NUMBER", nargs="?", help=BOARD + "; or a refusal's number")
+    parser.add_argument("orders", metavar="ORDERS", nargs="?", help=ORDERS)
+    parser.add_argument("--byte", type=count, metavar="N", help="say what byte N of board.dat is, and from which line it comes")
+    parser.add_argument("--order-byte", type=count, metavar="N", help="the same of orders.dat")
+
+
 def add_report(words):
     more = "Latest ends, spare ticks and the latest arrivals are shown where the planner that is built says them."
-    parser = add_word(words, "report", report_word, "show each part, the critical paths and the totals", more)
+    parser = add_board_word(words, "report", report_word, "show each part, the critical paths and the totals", more)
     parser.add_argument("--latest", action="store_true", help="the latest arrivals at the same price beside the earliest")
     parser.add_argument("--diff", action="store_true", help="what each order changed instead: delays, powers, total")
 
 
 def add_worth(words):
-    parser = add_word(words, "worth", worth_word, "show what each tick of the deadline saves", "Without --from and --to: every deadline that matters.")
+    parser = add_board_word(words, "worth", worth_word, "show what each tick of the deadline saves", "Without --from and --to: every deadline that matters.")
     parser.add_argument("--from", dest="first", type=count, metavar="TICKS", help="the first deadline")
     parser.add_argument("--to", dest="last", type=count, metavar="TICKS", help="the last deadline")
     parser.add_argument("--svg", metavar="FILE", help="draw it there too")

@@ -29,7 +29,8 @@ class Guide(unittest.TestCase):
         self.assertIsNone(guide.entry(0))
 
     def test_every_limit(self):
-        for name, heading in (("deadline", "deadline"), ("fastest", "fastest"), ("power", "power at the fastest"), ("length", "length of a run"), ("saving", "saving of a run")):
+        headings = {"deadline": "deadline", "fastest": "fastest", "power": "power at the fastest", "length": "length of a run", "saving": "saving of a run"}
+        for name, heading in headings.items():
             low, high = limits.RANGES[name]
             self.assertRegex(self.text, rf"(?m)^\| {heading} \| {low:,} \| {high:,} \|")
         for name, most in limits.READS.items():
@@ -46,7 +47,7 @@ class Guide(unittest.TestCase):
             self.assertRegex(self.text, rf"(?m)^\| `{word} ")
 
     def test_every_word_of_the_command(self):
-        words = set(re.findall(r'add_word\(\s*words, "(\w+)"', read("tools/front.py")))
+        words = set(re.findall(r'add_(?:word|board_word|made)\(words, "(\w+)"', read("tools/front.py")))
         self.assertEqual(words, set(re.findall(r"(?m)^\| `(\w+) [A-Z]", self.text.split("## What a board is")[0])))
 
     def test_links_within_it(self):

@@ -54,8 +54,9 @@ class Building(unittest.TestCase):
         path = (self.kit + ":" if kit else "") + "/usr/bin:/bin"
         environment = {"PATH": path, "TMPDIR": self.place, **more.pop("env", {})}
         words = [command or os.path.join(self.root, "boddivarn"), "plan", *(words or [self.board])]
-        python = shutil.which("python3")
-        return subprocess.Popen([python, *words], stdout=subprocess.PIPE, stderr=subprocess.PIPE, text=True, env=environment, cwd=more.pop("cwd", self.place), **more)
+        place = more.pop("cwd", self.place)
+        pipes = {"stdout": subprocess.PIPE, "stderr": subprocess.PIPE, "text": True}
+        return subprocess.Popen([shutil.which("python3"), *words], env=environment, cwd=place, **pipes, **more)
 
     def run_plan(self, *words, **more):
         """Status, output and what was said."""
@@ -136,7 +137,8 @@ class Building(unittest.TestCase):
         out = self.run_plan()[1]
         link = os.path.join(self.place, "a link")
         os.symlink(os.path.join(self.root, "boddivarn"), link)
-        for command, place in ((link, "/"), (link, self.root), (None, "/"), (os.path.join("..", os.path.basename(self.place), "checkout", "boddivarn"), self.place)):
+        by_steps = os.path.join("..", os.path.basename(self.place), "checkout", "boddivarn")
+        for command, place in ((link, "/"), (link, self.root), (None, "/"), (by_steps, self.place)):
             self.assertEqual(self.run_plan(self.board, command=command, cwd=place), (0, out, ""))
         self.assertEqual(self.run_plan("board.txt", cwd=self.place), (0, out, ""))
 

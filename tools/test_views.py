@@ -261,7 +261,8 @@ class Said(unittest.TestCase):
     """The lines of the program `calls`, today's and those of later requests."""
 
     def test_today(self):
-        held = asked.state_of(["held 1", "deadline 9", "file 0109", "part 0 start 0 delay 4 end 4 power 60", "total 60", "link 0 1 critical 1", "sets 0 up 1 1"])
+        lines = ["held 1", "deadline 9", "file 0109", "part 0 start 0 delay 4 end 4 power 60", "total 60"]
+        held = asked.state_of(lines + ["link 0 1 critical 1", "sets 0 up 1 1 down 3 2"])
         self.assertEqual((held.deadline, held.last_tick, held.file, held.parts), (9, 9, b"\1\x09", [(0, 4, 4, 60)]))
         self.assertEqual((held.total, held.links, held.late, held.latest_ends), (60, [(0, 1, True)], None, None))
 

@@ -277,7 +277,8 @@ class BadInput(unittest.TestCase):
 
     def test_orders_that_the_program_would_not_read(self):
         self.write("many.txt", "deadline 9\n" * 40000)
-        fault = "many.txt:32769: with this order the stream passes 65536 bytes, and the program reads no more; put it and the orders after it into another run\n"
+        fault = "many.txt:32769: with this order the stream passes 65536 bytes, and the program reads no more;" \
+            " put it and the orders after it into another run\n"
         for words in (["plan", "good.txt", "many.txt"], ["check", "good.txt", "many.txt"], ["pack", "good.txt", "many.txt", "--out", "packed"]):
             self.assertEqual(self.said(*words), fault)
         self.write("most.txt", "deadline 9\n" * 32768)

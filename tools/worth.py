@@ -199,5 +199,6 @@ def bars(rows, panel):
     width = 0.7 * pitch if pitch > 6 else pitch + 0.2  # where they are narrow, without gaps
     for row in rows:
         top = panel.y(row.saves)
+        place = {"x": panel.x(row.deadline) - width / 2, "y": top, "width": width, "height": panel.top + panel.high - top}
         words = svg.title(f"the tick from {row.deadline - 1} to {row.deadline} saves {row.saves}")
-        yield svg.element("rect", words, x=panel.x(row.deadline) - width / 2, y=top, width=width, height=panel.top + panel.high - top, fill=svg.LINK, data_saves=row.saves)
+        yield svg.element("rect", words, **place, fill=svg.LINK, data_saves=row.saves)
