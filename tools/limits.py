@@ -4,7 +4,7 @@
 RANGES = {
     "deadline": (1, 4095),
     "fastest": (1, 1023),
-    "power": (0, 2_000_000),
+    "power": (0, 20_000_000),
     "length": (1, 255),
     "saving": (1, 1000),
     "delay": (0, 255),
@@ -12,7 +12,7 @@ RANGES = {
 MOST_PARTS = 64
 MOST_LINKS = 256
 MOST_RUNS = 4
-MOST_GROUPS = 3  # groups of seven bits in one number of a file
+MOST_GROUPS = 4  # groups of seven bits in one number of a file
 LONGEST_LABEL = 16
 
 # The bytes that the program reads of each file. What stands past them it would not see.

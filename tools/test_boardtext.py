@@ -229,7 +229,7 @@ class Orders(unittest.TestCase):
     def test_both_ways(self):
         for text, data in [
             ("add TRACE VIA\ndeadline 9\nremove TRACE VIA\ndeadline 9\n", "02030101090303010109"),
-            ("curve BUF fastest 1023 power 2000000 runs 255@1000 1@1\n", "0402ff0780897a02ff01e8070101"),
+            ("curve BUF fastest 1023 power 20000000 runs 255@1000 1@1\n", "0402ff0780dac40902ff01e8070101"),
             ("add @4 @63\nremove AMP @5\ncurve @7 fastest 1 power 0\n", "02043f030005 0407010000".replace(" ", "")),
         ]:
             self.assertEqual(self.bytes_of(text).hex(), data)
@@ -279,8 +279,32 @@ class Later(unittest.TestCase):
 
 class Files(unittest.TestCase):
     def test_numbers(self):
-        for n, form in [(0, "00"), (127, "7f"), (128, "8001"), (16383, "ff7f"), (16384, "808001"), (2097151, "ffff7f")]:
+        for n, form in [
+            (0, "00"), (127, "7f"), (128, "8001"), (16383, "ff7f"), (16384, "808001"), (2097151, "ffff7f"), (2097152, "80808001"),
+            (20000000, "80dac409"), (268435455, "ffffff7f"),
+        ]:
             self.assertEqual(encode(n).hex(), form)
+            self.assertEqual(Reader(bytes.fromhex(form), "f").number("n", 0, n), n)
+
+    def test_groups_that_are_no_number(self):
+        for form, words in [
+            ("808080", "f: byte 3: the file ends within n"),
+            ("80808080", "f: byte 0: n has more than 4 groups"),
+            ("8080808001", "f: byte 0: n has more than 4 groups"),
+            ("80808000", "f: byte 0: n is not in its shortest form"),
+            ("80808001", "f: byte 0: n is 2097152, which is not from 0 to 9"),
+        ]:
+            with self.subTest(form=form), self.assertRaises(InputFaults) as raised:
+                Reader(bytes.fromhex(form), "f").number("n", 0, 9)
+            self.assertEqual(str(raised.exception), words)
+
+    def test_powers(self):
+        for power, last in [(2097151, "ffff7f"), (2097152, "80808001"), (20000000, "80dac409")]:
+            text = f"deadline 1\npart A fastest 1 power {power}\n"
+            said, faults = read_board(text.encode(), "b")
+            self.assertEqual((faults, board_bytes(said.board).hex()), ([], f"01010101{last}0000"))
+            self.assertEqual(board_text(board_of(board_bytes(said.board)), said.names), text)
+        self.assertEqual(self.fault(bytes.fromhex("0101010181dac4090000")), "b: byte 4: the power of part 0 (0) is 20000001, which is not from 0 to 20000000")
 
     def fault(self, data):
         with self.assertRaises(InputFaults) as raised:

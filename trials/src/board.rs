@@ -8,7 +8,7 @@ pub const MOST_LINKS: usize = 256;
 pub const MOST_RUNS: usize = 4;
 pub const MOST_DEADLINE: u32 = 4_095;
 pub const MOST_FASTEST: u32 = 1_023;
-pub const MOST_POWER: u32 = 2_000_000;
+pub const MOST_POWER: u32 = 20_000_000;
 pub const MOST_LENGTH: u32 = 255;
 pub const MOST_SAVING: u32 = 1_000;
 
@@ -89,6 +89,21 @@ impl Board {
             && self.links.iter().all(|&(from, to)| from != to && from < self.parts() && to < self.parts())
     }
 
+    /// The ticks that a path may take.
+    pub fn usable(&self) -> u32 {
+        self.deadline
+    }
+
+    /// The ticks of a link itself: none.
+    pub fn wire(&self, _link: (usize, usize)) -> u32 {
+        0
+    }
+
+    /// When a link brings the end of its first part to its second.
+    pub fn arrival(&self, link: (usize, usize), ends: &[u32]) -> u32 {
+        ends[link.0] + self.wire(link)
+    }
+
     pub fn fastest(&self) -> Vec<u32> {
         self.curves.iter().map(|curve| curve.fastest).collect()
     }
@@ -104,9 +119,9 @@ impl Board {
         while moved {
             moved = false;
             for &(from, to) in &self.links {
-                let end = starts[from] + delays[from];
-                if starts[to] < end {
-                    starts[to] = end;
+                let arrival = starts[from] + delays[from] + self.wire((from, to));
+                if starts[to] < arrival {
+                    starts[to] = arrival;
                     moved = true;
                 }
             }
@@ -146,6 +161,13 @@ impl Board {
         (0..self.parts()).filter(|&other| self.downstream(other).contains(&part)).collect()
     }
 
+    /// Upstream and downstream of every part; each downstream is found once.
+    pub fn cones(&self) -> Vec<(BTreeSet<usize>, BTreeSet<usize>)> {
+        let down: Vec<_> = (0..self.parts()).map(|part| self.downstream(part)).collect();
+        let up = |part| (0..self.parts()).filter(|&other| down[other].contains(&part)).collect();
+        (0..self.parts()).map(|part| (up(part), down[part].clone())).collect()
+    }
+
     pub fn lowest_part_on_a_loop(&self) -> Option<usize> {
         (0..self.parts()).find(|&part| self.after(part).contains(&part))
     }
@@ -159,11 +181,11 @@ impl Board {
     pub fn slow_path(&self) -> Vec<usize> {
         let ends = self.times(&self.fastest()).ends;
         let mut path = Vec::new();
-        let mut next = lowest_of_greatest(0..self.parts(), &ends);
+        let mut next = lowest_of_greatest(ends.iter().copied().enumerate());
         while let Some(part) = next {
             path.push(part);
             let before = (0..self.parts()).filter(|&other| self.links.contains(&(other, part)));
-            next = lowest_of_greatest(before, &ends);
+            next = lowest_of_greatest(before.map(|other| (other, self.arrival((other, part), &ends))));
         }
         path.reverse();
         path
@@ -175,7 +197,7 @@ impl Board {
             return Err(Refusal::at(9, part));
         }
         let ticks = self.fastest_path_ticks();
-        if ticks > self.deadline {
+        if ticks > self.usable() {
             let mut refusal = Refusal::at(10, ticks as usize);
             refusal.path = self.slow_path();
             return Err(refusal);
@@ -188,9 +210,10 @@ fn greatest(ends: &[u32]) -> u32 {
     ends.iter().copied().max().unwrap_or(0)
 }
 
-/// `parts` ascend, so the first that no other exceeds is the lowest.
-fn lowest_of_greatest(parts: impl Iterator<Item = usize>, ends: &[u32]) -> Option<usize> {
-    let parts: Vec<usize> = parts.collect();
-    let most = parts.iter().map(|&part| ends[part]).max()?;
-    parts.into_iter().find(|&part| ends[part] == most)
+/// `parts` ascend, each with its ticks, so the first that no other exceeds is
+/// the lowest.
+fn lowest_of_greatest(parts: impl Iterator<Item = (usize, u32)>) -> Option<usize> {
+    let parts: Vec<(usize, u32)> = parts.collect();
+    let most = parts.iter().map(|&(_, ticks)| ticks).max()?;
+    parts.into_iter().find(|&(_, ticks)| ticks == most).map(|(part, _)| part)
 }

@@ -118,7 +118,7 @@ impl Climb<'_> {
         cut.arc(SOURCE, end_of(part), next);
         cut.arc(start_of(part), SINK, next);
         cut.arc(start_of(part), end_of(part), last - next);
-        if self.ends[part] == self.board.deadline {
+        if self.ends[part] == self.board.usable() {
             cut.arc(end_of(part), SINK, NEVER);
         }
     }
@@ -129,9 +129,9 @@ impl Climb<'_> {
         for part in 0..self.board.parts() {
             self.price_part(&mut cut, part);
         }
-        for &(from, to) in &self.board.links {
-            if self.ends[from] == self.starts[to] {
-                cut.arc(end_of(from), start_of(to), NEVER);
+        for &link in &self.board.links {
+            if self.board.arrival(link, &self.ends) == self.starts[link.1] {
+                cut.arc(end_of(link.0), start_of(link.1), NEVER);
             }
         }
         cut.least_set()

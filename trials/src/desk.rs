@@ -31,12 +31,29 @@ impl Held {
         Ok(Held { board, budget })
     }
 
+    /// The design file of the board.
+    pub fn file(&self) -> Vec<u8> {
+        write_design(&self.board)
+    }
+
     pub fn is_critical(&self, link: (usize, usize)) -> bool {
-        self.budget.ends[link.0] == self.budget.starts[link.1]
+        self.board.arrival(link, &self.budget.ends) == self.budget.starts[link.1]
     }
 
     fn critical_links(&self) -> impl Iterator<Item = (usize, usize)> + '_ {
         self.board.links.iter().copied().filter(|&link| self.is_critical(link))
+    }
+
+    /// Upstream and downstream of every part.
+    pub fn cones(&self) -> Vec<(Marks, Marks)> {
+        let marked = |(up, down)| (Marks::of_parts(up), Marks::of_parts(down));
+        self.board.cones().into_iter().map(marked).collect()
+    }
+
+    /// The parent set of a part, then the child set.
+    pub fn parents_and_children(&self, part: usize) -> (Marks, Marks) {
+        let (parents, children) = self.families(part);
+        (Marks::of(parents), Marks::of(children))
     }
 
     /// Parents and children by turns until neither grows.
@@ -82,10 +99,9 @@ impl Marks {
     }
 }
 
-/// What came of an order. Where it cannot be read, kind and bytes are 0.
+/// What came of an order. Where it cannot be read, it took no bytes.
 #[derive(Clone, Debug, PartialEq, Eq)]
 pub struct Answer {
-    pub kind: u32,
     pub took: usize,
     pub verdict: Result<(), Refusal>,
 }
@@ -112,7 +128,7 @@ impl Desk {
     pub fn order(&mut self, bytes: &[u8], tally: &mut Tally) -> Answer {
         let (order, took) = match read_order(bytes) {
             Ok(read) => read,
-            Err(refusal) => return Answer { kind: 0, took: 0, verdict: Err(refusal) },
+            Err(refusal) => return Answer { took: 0, verdict: Err(refusal) },
         };
         let verdict = match self.tried(&order, tally) {
             Ok(held) => {
@@ -127,7 +143,7 @@ impl Desk {
                 Err(refusal)
             }
         };
-        Answer { kind: order.kind(), took, verdict }
+        Answer { took, verdict }
     }
 
     /// The desk as it would be: 11, 18, 17, the order's own refusals, 9, 10.
@@ -148,7 +164,7 @@ impl Desk {
 
     /// Writes the design file at the front of `buffer` and says its length.
     pub fn write(&self, buffer: &mut [u8]) -> Result<usize, Refusal> {
-        let file = write_design(&self.held()?.board);
+        let file = self.held()?.file();
         if buffer.len() < file.len() {
             return Err(Refusal::at(16, file.len()));
         }
@@ -157,35 +173,34 @@ impl Desk {
     }
 
     /// Refusals 11 and 17 of every question about a part.
-    fn asked(&self, part: u32) -> Result<(&Held, usize), Refusal> {
+    fn asked(&self, part: u64) -> Result<(&Held, usize), Refusal> {
         let held = self.held()?;
-        if part as usize >= held.board.parts() {
-            return Err(Refusal::at(17, part as usize));
+        if part >= held.board.parts() as u64 {
+            return Err(Refusal::asked(17, part));
         }
         Ok((held, part as usize))
     }
 
-    pub fn upstream(&self, part: u32) -> Result<Marks, Refusal> {
+    pub fn upstream(&self, part: u64) -> Result<Marks, Refusal> {
         let (held, part) = self.asked(part)?;
         Ok(Marks::of_parts(held.board.upstream(part)))
     }
 
-    pub fn downstream(&self, part: u32) -> Result<Marks, Refusal> {
+    pub fn downstream(&self, part: u64) -> Result<Marks, Refusal> {
         let (held, part) = self.asked(part)?;
         Ok(Marks::of_parts(held.board.downstream(part)))
     }
 
     /// The parent set, then the child set.
-    pub fn parents_and_children(&self, part: u32) -> Result<(Marks, Marks), Refusal> {
+    pub fn parents_and_children(&self, part: u64) -> Result<(Marks, Marks), Refusal> {
         let (held, part) = self.asked(part)?;
-        let (parents, children) = held.families(part);
-        Ok((Marks::of(parents), Marks::of(children)))
+        Ok(held.parents_and_children(part))
     }
 
-    pub fn power(&self, part: u32, delay: u32) -> Result<u32, Refusal> {
+    pub fn power(&self, part: u64, delay: u64) -> Result<u32, Refusal> {
         let (held, part) = self.asked(part)?;
-        let power = held.board.curves[part].power_at(delay);
-        power.ok_or(Refusal::at(19, delay as usize))
+        let power = u32::try_from(delay).ok().and_then(|delay| held.board.curves[part].power_at(delay));
+        power.ok_or(Refusal::asked(19, delay))
     }
 }
 
@@ -232,8 +247,9 @@ fn is_counted(refusal: &Refusal) -> bool {
 
 /// The label on line `line` of a name sheet, looked up in the sheet alone.
 /// Only a whole line of 1 to 16 good bytes is a label.
-pub fn label(sheet: &[u8], line: u32) -> Result<&[u8], Refusal> {
-    let found = sheet.split(|&byte| byte == 10).nth(line as usize);
+pub fn label(sheet: &[u8], line: u64) -> Result<&[u8], Refusal> {
+    let found =
+        sheet.split(|&byte| byte == 10).zip(0..).find(|&(_, number)| number == line).map(|(label, _)| label);
     match found {
         Some(label) if is_good(label) => Ok(label),
         _ => Err(Refusal::at(20, 0)),

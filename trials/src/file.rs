@@ -6,6 +6,9 @@ use crate::board::*;
 use crate::refusal::Refusal;
 use std::collections::BTreeSet;
 
+/// The most groups of seven bits that a number may have.
+const MOST_GROUPS: u32 = 4;
+
 #[derive(Clone, Debug, PartialEq, Eq)]
 pub enum Order {
     Deadline(u32),
@@ -38,11 +41,11 @@ struct Cursor<'a> {
 }
 
 impl Cursor<'_> {
-    /// One number of at most three groups: refusals 1 and 2.
+    /// One number: refusals 1 and 2.
     fn number(&mut self) -> Result<Number, Refusal> {
         let place = self.at;
         let mut value = 0;
-        for group in 0..3 {
+        for group in 0..MOST_GROUPS {
             let Some(&byte) = self.bytes.get(self.at) else {
                 return Err(Refusal::at(1, self.bytes.len()));
             };

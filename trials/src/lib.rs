@@ -11,10 +11,12 @@
 
 pub mod board;
 pub mod bundle;
+pub mod calls;
 pub mod climb;
 pub mod desk;
 pub mod file;
 pub mod make;
+pub mod player;
 pub mod refusal;
 pub mod report;
 pub mod rng;

@@ -3,13 +3,19 @@
 #[derive(Clone, Debug, PartialEq, Eq)]
 pub struct Refusal {
     pub number: u32,
-    pub place: u32,
+    /// A byte, a part, a count of ticks or whatever number was asked for.
+    pub place: u64,
     /// Parts from first to last; empty except at refusal 10.
     pub path: Vec<usize>,
 }
 
 impl Refusal {
     pub fn at(number: u32, place: usize) -> Refusal {
-        Refusal { number, place: u32::try_from(place).expect("a place has 32 bits"), path: Vec::new() }
+        Refusal::asked(number, place as u64)
+    }
+
+    /// The place is a number that was asked for.
+    pub fn asked(number: u32, place: u64) -> Refusal {
+        Refusal { number, place, path: Vec::new() }
     }
 }

@@ -59,13 +59,14 @@ impl Network {
             arcs: Vec::new(),
             leaving: vec![Vec::new(); 2 * parts + 2],
             parts,
-            deadline: i64::from(board.deadline),
+            deadline: i64::from(board.usable()),
         };
         for part in 0..parts {
             network.add_part(board, part);
         }
         for &(from, to) in &board.links {
-            network.add(network.end_of(from), network.start_of(to), 0, ANY);
+            let ticks = i64::from(board.wire((from, to)));
+            network.add(network.end_of(from), network.start_of(to), ticks, ANY);
         }
         for part in 0..parts {
             network.add(network.start(), network.start_of(part), 0, ANY);
@@ -238,7 +239,7 @@ pub fn every_cheapest(board: &Board) -> Vec<Budget> {
     while let Some(delays) = next {
         next = following(board, &delays);
         let budget = Budget::of(board, delays).expect("delays are counted within the curves");
-        if budget.ends.iter().any(|&end| end > board.deadline) {
+        if budget.ends.iter().any(|&end| end > board.usable()) {
             continue;
         }
         let least = best.first().map(|one| one.total);

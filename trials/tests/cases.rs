@@ -8,7 +8,7 @@ use trials::file::{read_design, write_design};
 use trials::refusal::Refusal;
 use trials::solve::{earliest, every_cheapest};
 
-fn refused_load(board: &Board) -> (u32, u32, Vec<usize>) {
+fn refused_load(board: &Board) -> (u32, u64, Vec<usize>) {
     let Refusal { number, place, path } =
         Desk::default().load(&write_design(board), &mut Tally::default()).expect_err("the load is refused");
     (number, place, path)

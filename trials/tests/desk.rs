@@ -20,9 +20,9 @@ fn nothing_held() {
     let mut tally = Tally { taken: 70_000, refused: 1 };
     let nothing = Refusal::at(11, 0);
     let answer = desk.order(&bytes("01 09"), &mut tally);
-    assert_eq!((answer.kind, answer.took, answer.verdict), (1, 2, Err(nothing.clone())));
+    assert_eq!((answer.took, answer.verdict), (2, Err(nothing.clone())));
     let unread = desk.order(&bytes("01 00"), &mut tally);
-    assert_eq!((unread.kind, unread.took, unread.verdict), (0, 0, Err(Refusal::at(4, 1))));
+    assert_eq!((unread.took, unread.verdict), (0, Err(Refusal::at(4, 1))));
     assert_eq!(desk.write(&mut []), Err(nothing.clone()));
     assert_eq!(desk.upstream(99), Err(nothing.clone()));
     assert_eq!(desk.power(0, 0), Err(nothing));
@@ -118,14 +118,16 @@ fn a_write_leaves_the_rest_of_the_buffer() {
 #[test]
 fn questions_refuse_any_number_that_is_no_part() {
     let k = Session::with(&board_k()).desk;
-    for part in [4, 63, 64, 65, u32::MAX] {
-        let refusal = Refusal::at(17, part as usize);
+    for part in [4, 63, 64, 65, 1 << 32, u64::MAX] {
+        let refusal = Refusal::asked(17, part);
         assert_eq!(k.upstream(part), Err(refusal.clone()));
         assert_eq!(k.downstream(part), Err(refusal.clone()));
         assert_eq!(k.parents_and_children(part), Err(refusal.clone()));
         assert_eq!(k.power(part, 0), Err(refusal));
     }
-    assert_eq!(k.power(3, u32::MAX), Err(Refusal::at(19, u32::MAX as usize)));
+    for delay in [0, 3, 7, 1 << 32, (1 << 32) + 4, u64::MAX] {
+        assert_eq!(k.power(3, delay), Err(Refusal::asked(19, delay)));
+    }
 }
 
 /// Two parents share a child, one of them has a child of its own; a part that
@@ -153,7 +155,7 @@ fn labels() {
     for (line, name) in good {
         assert_eq!(label(sheet, line), Ok(name.as_bytes()));
     }
-    for line in [1, 3, 4, 6, 8, 64, u32::MAX] {
+    for line in [1, 3, 4, 6, 8, 64, 1 << 32, u64::MAX] {
         assert_eq!(label(sheet, line), Err(Refusal::at(20, 0)), "line {line}");
     }
     assert_eq!(label(b"", 0), Err(Refusal::at(20, 0)));

@@ -16,8 +16,11 @@ const FAULTY_FILES: &[(&str, u32, u32)] = &[
     ("01", 1, 1),
     ("80", 1, 1),
     ("80 80", 1, 2),
-    ("80 80 80", 2, 0),
-    ("80 80 80 01", 2, 0),
+    ("80 80 80", 1, 3),
+    ("80 80 80 80", 2, 0),
+    ("80 80 80 80 01", 2, 0),
+    ("80 80 80 00", 2, 0),
+    ("80 80 80 01", 3, 0),
     ("80 80 00", 2, 0),
     ("81 00", 2, 0),
     ("00", 3, 0),
@@ -33,9 +36,9 @@ const FAULTY_FILES: &[(&str, u32, u32)] = &[
     ("01 0A 01 00", 4, 3),
     ("01 0A 01 80 08", 4, 3),
     ("01 0A 01 FF 07", 1, 5),
-    ("01 0A 01 01 81 89 7A", 4, 4),
-    ("01 0A 01 01 80 89 7A", 1, 7),
-    ("01 0A 01 01 80 89 7A 05", 4, 7),
+    ("01 0A 01 01 81 DA C4 09", 4, 4),
+    ("01 0A 01 01 80 DA C4 09", 1, 8),
+    ("01 0A 01 01 80 DA C4 09 05", 4, 8),
     // Length, saving; 4 comes before 5, and 5 before 6.
     ("01 0A 01 01 64 01 00", 4, 6),
     ("01 0A 01 01 64 01 80 02", 4, 6),
@@ -67,7 +70,9 @@ const FAULTY_ORDERS: &[(&str, u32, u32)] = &[
     ("05", 12, 0),
     ("80 01", 12, 0),
     ("81 00", 2, 0),
-    ("81 80 80", 2, 0),
+    ("81 80 80", 1, 3),
+    ("81 80 80 80", 2, 0),
+    ("81 80 80 01", 12, 0),
     ("81", 1, 1),
     ("01", 1, 1),
     ("01 00", 4, 1),
@@ -77,6 +82,11 @@ const FAULTY_ORDERS: &[(&str, u32, u32)] = &[
     ("03 3F", 1, 2),
     ("03 40 00", 4, 1),
     ("04 40", 4, 1),
+    ("01 80 80 80 01", 4, 1),
+    ("02 00 80 80 80 01", 4, 2),
+    ("04 80 80 80 01", 4, 1),
+    ("04 00 01 81 DA C4 09", 4, 3),
+    ("04 00 01 80 DA C4 09", 1, 7),
     ("04 00 00", 4, 2),
     ("04 00 01 05 03 01 05 01 05", 5, 8),
     ("04 00 01 05 01 02 03", 6, 3),
@@ -85,7 +95,7 @@ const FAULTY_ORDERS: &[(&str, u32, u32)] = &[
 fn refusal_of<T>(read: Result<T, Refusal>, hex: &str) -> (u32, u32) {
     match read {
         Ok(_) => panic!("{hex} was read"),
-        Err(refusal) => (refusal.number, refusal.place),
+        Err(refusal) => (refusal.number, refusal.place as u32),
     }
 }
 
@@ -167,17 +177,67 @@ fn every_cut_is_refusal_1() {
     }
 }
 
+/// What is read of a small file whose number at `place` stands as `form`,
+/// with or without the numbers after it.
+fn read_with(place: usize, form: &[u8], rest: bool) -> Result<Board, Refusal> {
+    let numbers = design_numbers(&boards::with_every_field());
+    let after = if rest { bytes_of(&numbers[place + 1..]) } else { Vec::new() };
+    read_design(&[&bytes_of(&numbers[..place])[..], form, &after].concat())
+}
+
+/// The places of the powers among the numbers of that file, each a byte long.
+const POWERS: [usize; 2] = [4, 9];
+
+/// Refusal 4 in every field that keeps its range, 3 for the version; a power
+/// is read up to 20,000,000.
+#[test]
+fn four_groups_in_every_field() {
+    for place in 0..design_numbers(&boards::with_every_field()).len() {
+        for number in [2_097_151, 2_097_152, 20_000_000, 20_000_001, 268_435_455] {
+            let read = read_with(place, &number_bytes(number), true);
+            if POWERS.contains(&place) && number <= 20_000_000 {
+                let board = read.expect("a power in its range");
+                assert!(board.curves.iter().any(|curve| curve.power == number));
+            } else {
+                let refused = if place == 0 { 3 } else { 4 };
+                assert_eq!(refusal_of(read, "a number"), (refused, place as u32), "{number} at {place}");
+            }
+        }
+    }
+}
+
+/// 1 while fewer than four groups are read, and 2 from the fourth on, whether
+/// or not the input ends there.
+#[test]
+fn four_groups_cut_after_every_byte() {
+    for place in 0..design_numbers(&boards::with_every_field()).len() {
+        for hex in ["80 80 80 01", "FF FF FF 7F", "80 80 80 80", "80 80 80 00"] {
+            let form = bytes(hex);
+            for length in 1..4 {
+                let cut = refusal_of(read_with(place, &form[..length], false), hex);
+                assert_eq!(cut, (1, (place + length) as u32), "{hex} at {place}");
+            }
+        }
+        for hex in ["80 80 80 80", "80 80 80 00", "80 80 80 80 01"] {
+            for rest in [false, true] {
+                let refused = refusal_of(read_with(place, &bytes(hex), rest), hex);
+                assert_eq!(refused, (2, place as u32), "{hex} at {place}");
+            }
+        }
+    }
+}
+
 #[test]
 fn the_longest_file() {
     let runs = [Run { length: 255, saving: 1_000 }; 4];
     let savings = [1_000, 999, 998, 997];
     let runs = runs.iter().zip(savings).map(|(run, saving)| Run { saving, ..*run }).collect();
-    let curve = Curve { fastest: 1_023, power: 2_000_000, runs };
+    let curve = Curve { fastest: 1_023, power: 20_000_000, runs };
     let all = (0..64).flat_map(|from| (0..64).map(move |to| (from, to)));
     let links = all.filter(|(from, to)| from < to).take(256).collect();
     let board = Board { deadline: 4_095, curves: vec![curve; 64], links };
     assert!(board.is_well_formed());
-    assert_eq!(write_design(&board).len(), 1_926);
+    assert_eq!(write_design(&board).len(), 1_990);
     assert_eq!(read_design(&write_design(&board)), Ok(board));
 }
 

@@ -2,9 +2,10 @@
 //! refusal often enough to be tried.
 
 use std::collections::{BTreeMap, BTreeSet};
+use trials::calls::{script, Call};
 use trials::file::{read_design, read_order};
 use trials::make::{self, advice, boards::*};
-use trials::report;
+use trials::player::played;
 use trials::rng::Rng;
 
 /// How often each number was met; 0 is acceptance.
@@ -73,7 +74,6 @@ fn boards_of_every_size_with_links_both_ways() {
 fn files_meet_every_refusal_of_reading() {
     let mut counts = Counts::new();
     for file in make::files(10_000, &mut Rng::new(13)) {
-        assert!(file.len() <= 2_048);
         *counts.entry(read_design(&file).err().map_or(0, |refusal| refusal.number)).or_default() += 1;
     }
     assert_met(&counts, &[0, 1, 2, 3, 4, 5, 6, 7, 8], 100);
@@ -93,20 +93,60 @@ fn orders_meet_every_refusal_of_reading() {
     assert_met(&kinds, &[1, 2, 3, 4], 1_000);
 }
 
-/// Read from the printed lines, as a comparison would see them.
+/// How often the answers to a call have each number, read from the printed
+/// lines, as a comparison would see them.
+fn answers(text: &str, call: &str) -> Counts {
+    let mut counts = Counts::new();
+    for line in text.lines() {
+        let words: Vec<&str> = line.split(' ').collect();
+        if words[0] == call && words[1] == "no" {
+            *counts.entry(words[2].parse().unwrap()).or_default() += 1;
+        }
+    }
+    counts
+}
+
 #[test]
 fn sessions_meet_every_refusal_of_orders() {
-    let records = make::sessions(300, &mut Rng::new(15));
-    let records: Vec<&[u8]> = records.iter().map(Vec::as_slice).collect();
-    let mut counts = Counts::new();
-    for line in report::sessions(&records).lines().filter(|line| line.starts_with("order ")) {
-        let words: Vec<&str> = line.split(' ').collect();
-        assert_eq!(words[6], "no");
-        *counts.entry(words[7].parse().unwrap()).or_default() += 1;
-    }
+    let text = played(&script(&make::sessions(400, &mut Rng::new(15))));
+    let counts = answers(&text, "order");
     assert_met(&counts, &[0], 2_000);
-    assert_met(&counts, &[7, 9, 10, 11, 13, 14, 15, 17], 10);
+    assert_met(&counts, &[7, 9, 10, 11, 13, 14, 15, 17, 18], 10);
     assert_met(&counts, &[2, 4, 12], 5);
+    assert_met(&answers(&text, "load"), &[0, 1, 9, 10], 5);
+    assert!(!text.contains("stopped"));
+}
+
+/// Loads that are refused while a board is held, on a tally that is not 0.
+#[test]
+fn loads_on_a_held_board() {
+    let text = played(&script(&make::loads(600, &mut Rng::new(17))));
+    let lines: Vec<&str> = text.lines().collect();
+    let kept = |three: &&[&str]| {
+        three[0].starts_with("load no ") && !three[0].starts_with("load no 0") && three[2] == "held 1"
+    };
+    let kept: Vec<_> = lines.windows(3).filter(kept).collect();
+    assert!(kept.len() > 50, "{} refused loads kept a board", kept.len());
+    assert!(kept.iter().any(|three| three[1] != "tally 0 0"));
+    assert!(text.contains("\nheld 0\n"));
+}
+
+/// In steps what is held is asked for after every call.
+#[test]
+fn steps_show_every_state() {
+    let calls = make::steps(20, &mut Rng::new(18));
+    assert!(calls.chunks(2).all(|two| two[0] != Call::State && two[1] == Call::State));
+}
+
+#[test]
+fn questions_of_every_kind() {
+    let text = played(&script(&make::questions(400, &mut Rng::new(19))));
+    assert_met(&answers(&text, "power"), &[0, 11, 17, 19], 100);
+    for call in ["up", "down", "sets"] {
+        assert_met(&answers(&text, call), &[0, 11, 17], 50);
+    }
+    assert_met(&answers(&text, "write"), &[0, 11, 16], 50);
+    assert_met(&answers(&text, "label"), &[0, 20], 200);
 }
 
 /// Right advice has loads, stale and hostile advice differs from it, and a
@@ -129,5 +169,6 @@ fn advice_of_every_kind() {
     assert!(other[3] > 150, "{other:?}");
     let records = make::advised(400, rng);
     assert_eq!(records.len(), 800);
-    assert!(records.chunks(2).any(|pair| report::solve(&[&pair[0]]).starts_with("1 no 9")));
+    let refused = |file: &[u8]| read_design(file).unwrap().check_loops_and_times().err();
+    assert!(records.chunks(2).any(|pair| refused(&pair[0]).is_some_and(|refusal| refusal.number == 9)));
 }

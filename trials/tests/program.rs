@@ -5,8 +5,10 @@ use common::*;
 use std::fs;
 use std::path::PathBuf;
 use std::process::Command;
+use trials::calls::{calls, script, Call};
 use trials::file::write_design;
-use trials::{bundle, report};
+use trials::player::played;
+use trials::{make, report};
 
 /// A folder for one test; what an earlier run left there is overwritten.
 fn folder(name: &str) -> PathBuf {
@@ -43,8 +45,6 @@ fn the_papers_example() {
 fn missing_files_are_empty() {
     let folder = folder("missing");
     assert_eq!(printed(&["show", folder.to_str().unwrap()]), "refused 1 0\n");
-    let inspected = printed(&["inspect", folder.to_str().unwrap()]);
-    assert_eq!(inspected, "load no 1 place 0 path 0\nheld 0\ntally 0 0\n");
 }
 
 #[test]
@@ -82,26 +82,15 @@ fn orders_that_cannot_be_read() {
 fn a_refused_load_prints_no_more() {
     let slow = write_design(&one_part(4, curve(5, 255, &[(255, 1)])));
     assert_eq!(report::show(&slow, &bytes("01 09"), b""), "refused 10 5\n");
-    let inspected = report::inspect(&slow, &bytes("01 09 00"));
-    let lines: Vec<&str> = inspected.lines().collect();
-    assert_eq!(
-        lines,
-        [
-            "load no 10 place 5 path 1 0",
-            "order 1 at 0 kind 1 no 11 place 0 took 2 path 0",
-            "order 2 at 2 kind 0 no 12 place 0 took 0 path 0",
-            "held 0",
-            "tally 0 0"
-        ]
-    );
 }
 
 #[test]
 fn every_fact_of_k() {
     let expected = "load no 0 place 0 path 0
-order 1 at 0 kind 2 no 0 place 0 took 3 path 0
-order 2 at 3 kind 1 no 10 place 10 took 2 path 4 0 3 1 2
-order 3 at 5 kind 3 no 0 place 0 took 3 path 0
+order no 0 place 0 path 0 took 3 tally 1 0
+order no 10 place 10 path 4 0 3 1 2 took 2 tally 1 1
+order no 0 place 0 path 0 took 3 tally 2 1
+order no 12 place 0 path 0 took 0 tally 2 1
 held 1
 deadline 10
 file 010a0402640202140105035a01030c013201020c0428020106010203000100030102
@@ -118,39 +107,104 @@ sets 1 up 3 2 down 6 2 parents 2 1 children 4 1
 sets 2 up 7 3 down 4 1 parents 4 1 children 0 0
 sets 3 up 9 2 down 8 1 parents 8 1 children 0 0
 tally 2 1
+held 0
+tally 2 1
 ";
-    assert_eq!(report::inspect(&bytes(K_HEX), &bytes("02 03 01 01 09 03 03 01")), expected);
+    let order = |hex: &str| Call::Order(bytes(hex));
+    let orders = [order("02 03 01 01 09"), order("01 09"), order("03 03 01"), order("05")];
+    let around = [vec![Call::Load(bytes(K_HEX))], orders.to_vec(), vec![Call::State, Call::Counts]].concat();
+    let dropped = [Call::Drop, Call::State, Call::Counts];
+    assert_eq!(played(&script(&[around, dropped.to_vec()].concat())), expected);
 }
 
 #[test]
-fn bundles() {
-    let slow = write_design(&one_part(4, curve(5, 255, &[(255, 1)])));
-    let path = folder("bundles").join("three");
-    fs::write(&path, bundle::pack(&[bytes(K_HEX), slow, bytes("01 09")])).unwrap();
-    let path = path.to_str().unwrap();
-    let solved =
-        "1 total 208 ends 4 7 10 10 delays 4 3 3 6\n2 no 10 place 5 path 1 0\n3 no 1 place 2 path 0\n";
-    assert_eq!(printed(&["solve", path]), solved);
+fn questions_about_k() {
+    let write = |size| Call::Write { size, version: 1, rule: 0 };
+    let sheet = b"AMP\n\nB".to_vec();
+    let asked = [
+        (Call::Power(0, 5), "power no 0 value 55\n"),
+        (Call::Power(0, 6), "power no 19 place 6\n"),
+        (Call::Power(4, 6), "power no 17 place 4\n"),
+        (Call::Up(2), "up no 0 set 7 count 3\n"),
+        (Call::Down(u64::MAX), "down no 17 place 18446744073709551615\n"),
+        (Call::Sets(0), "sets no 0 parents 1 1 children 10 2\n"),
+        (Call::Label(0, sheet.clone()), "label no 0 414d50\n"),
+        (Call::Label(1, sheet), "label no 20 -\n"),
+        (write(33), "write no 16 place 34 path 0 file -\n"),
+        (Call::Tally(1 << 40, 7), ""),
+        (Call::Counts, "tally 4294967295 7\n"),
+        (Call::Rule(9), ""),
+    ];
+    let loaded = Call::Load(bytes(K_HEX));
+    let before = "load no 0 place 0 path 0\n";
+    for (call, line) in asked {
+        let calls = [loaded.clone(), call.clone(), Call::Counts];
+        let after = if matches!(call, Call::Tally(..)) { "tally 4294967295 7\n" } else { "tally 0 0\n" };
+        let line = if call == Call::Counts { "tally 0 0\n" } else { line };
+        assert_eq!(played(&script(&calls)), format!("{before}{line}{after}"), "{call:?}");
+    }
     let k = "010a0402640202140105035a01030c013201020c0428020106010203000100030102";
-    let read =
-        format!("1 no 0 place 0 file {k}\n2 no 0 place 0 file 01040105ff0101ff010100\n3 no 1 place 2\n");
-    assert_eq!(printed(&["read", path]), read);
-    let orders = "1 no 0 place 0 took 2 kind 1\n2 no 0 place 0 took 2 kind 1\n3 no 0 place 0 took 2 kind 1\n";
-    assert_eq!(printed(&["orders", path]), orders);
+    for size in [34, 35, 65_536, u64::MAX] {
+        let text = played(&script(&[loaded.clone(), write(size)]));
+        assert_eq!(text, format!("{before}write no 0 place 0 path 0 file {k}\n"));
+    }
+}
+
+/// A call that is cut short anywhere, and a byte that is no call, stop it.
+#[test]
+fn scripts_that_stop() {
+    let every = [
+        Call::Rule(1),
+        Call::Load(bytes(K_HEX)),
+        Call::Tally(1, 2),
+        Call::Power(1, 2),
+        Call::Label(1, vec![65; 3]),
+    ];
+    for call in every {
+        let whole = call.bytes();
+        for end in 1..whole.len() {
+            assert_eq!(played(&whole[..end]), "stopped\n", "{call:?} cut to {end}");
+        }
+    }
+    for byte in [0, 14, 255] {
+        assert_eq!(played(&[&Call::Counts.bytes()[..], &[byte, 6]].concat()), "tally 0 0\nstopped\n");
+    }
+    let longest = Call::Label(0, vec![65; 65_536]).bytes();
+    assert_eq!(played(&longest), "label no 20 -\n");
+    let longer = Call::Label(0, vec![65; 65_537]).bytes();
+    assert_eq!(played(&longer), "stopped\n");
+    assert_eq!(played(&[]), "");
+}
+
+/// The stored script is the tour, it has every call, and its stored output is
+/// what this planner prints.
+#[test]
+fn the_stored_script() {
+    let stored = PathBuf::from(env!("CARGO_MANIFEST_DIR")).join("../crates/calls");
+    let tour = make::tour();
+    assert_eq!(fs::read(stored.join("data/calls.dat")).unwrap(), tour, "trials tour writes it");
+    assert_eq!(fs::read_to_string(stored.join("stdout")).unwrap(), played(&tour));
+    let mut kinds: Vec<u8> = calls(&tour).flatten().map(|call| call.bytes()[0]).collect();
+    kinds.sort_unstable();
+    kinds.dedup();
+    assert_eq!(kinds, (1..=13).collect::<Vec<u8>>());
 }
 
 #[test]
-fn the_same_seed_makes_the_same_bundle() {
+fn the_same_seed_makes_the_same_script() {
     let folder = folder("made");
     let path = |name: &str| folder.join(name).to_str().unwrap().to_string();
-    for kind in ["files", "orders", "boards", "sessions"] {
+    for kind in ["loads", "designs", "sessions", "steps", "questions", "advised"] {
         let (one, other) = (path("one"), path("other"));
-        printed(&["make", kind, "50", "12", &one]);
-        printed(&["make", kind, "50", "12", &other]);
+        printed(&["make", kind, "20", "12", &one]);
+        printed(&["make", kind, "20", "12", &other]);
         let made = fs::read(&one).unwrap();
         assert_eq!(made, fs::read(&other).unwrap());
-        let records = if kind == "sessions" { 100 } else { 50 };
-        assert_eq!(bundle::unpack(&made).unwrap().len(), records);
+        if kind != "advised" {
+            let read: Vec<Call> = calls(&made).map(|call| call.expect("no call is cut short")).collect();
+            assert_eq!(script(&read), made);
+            assert_eq!(printed(&["calls", &one]), played(&made));
+        }
     }
 }
 

@@ -123,7 +123,7 @@ fn large_boards_keep_the_deadline() {
         assert_eq!((&times.starts, &times.ends), (&budget.starts, &budget.ends));
         assert!(budget.ends.iter().all(|&end| end <= board.deadline));
         assert_eq!(board.total(&budget.delays), Some(budget.total));
-        assert!(budget.total <= 128_000_000);
+        assert!(budget.total <= 1_280_000_000);
     }
 }
 

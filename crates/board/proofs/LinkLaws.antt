@@ -13,7 +13,7 @@ use Rattle.curve.specs.Tests.{both}
 use Rattle.curve.proofs.GoodLaws.{every-at, every-all}
 use Rattle.board.specs.declared.Link.{Link}
 use Rattle.board.specs.declared.Board.{Board}
-use Rattle.board.specs.Board.{WellFormed, linkAt, noLink, order}
+use Rattle.board.specs.Board.{WellFormed, linkAt, noLink, delayOf, order}
 use Rattle.board.specs.Tests.{belowOf, linkHeld, linkBlank, linkGood, linkTest, linksTest}
 
 -- ---- tests
@@ -31,12 +31,17 @@ unfolding pick
 both-hold true u e = (refl, e)
 both-hold false u e = clash e
 
--- ---- two links are one where their ends are
-pub link-same : (a x : Link) → a .from ≡ x .from → a .to ≡ x .to → a ≡ x
-link-same a x f t = ap (λ (n : ℕ). record { from = n; to = a .to }) f ∙ ap (λ (n : ℕ). record { from = x .from; to = n }) t
+-- ---- two links are one where their ends and delays are
+made : (f g t u d e : ℕ) → f ≡ g → t ≡ u → d ≡ e
+    → _≡_ {A = Link} (record { from = f; to = t; delay = record { 0 = d } }) (record { from = g; to = u; delay = record { 0 = e } })
+made f g t u d e from to delay = rw (from, to, delay)
 
-pub order-same : (a x : Link) → a .to < 64 → x .to < 64 → order a ≡ order x → a ≡ x
-order-same a x h l e = link-same a x (omega arith) (omega arith)
+pub link-same : (a x : Link) → a .from ≡ x .from → a .to ≡ x .to → a .delay .0 ≡ x .delay .0 → a ≡ x
+link-same a x f t d = made (a .from) (x .from) (a .to) (x .to) (a .delay .0) (x .delay .0) f t d
+
+-- links at one place in the order have the same ends
+pub order-ends : (a x : Link) → a .to < 64 → x .to < 64 → order a ≡ order x → (a .from ≡ x .from) × (a .to ≡ x .to)
+order-ends a x h l e = (omega arith, omega arith)
 
 -- ---- the order
 module _ (a x : Link) (h : a .to < 64) (l : x .to < 64) where
@@ -56,21 +61,30 @@ pub record LinkHeld (b : Board) (l : ℕ) : Type 0 where
   pub from-in : linkAt b l .from < b .parts
   pub to-in : linkAt b l .to < b .parts
   pub apart : linkAt b l .from ≢ linkAt b l .to
+  pub plain : delayOf (linkAt b l) ≡ 0
   pub above : pick (eqb l 0) true (eqb (belowOf (linkAt b (l - 1)) (linkAt b l)) 1) ≡ true
 
 pub held-passed : (b : Board) (l : ℕ) → linkHeld (b .parts) l (linkAt b (l - 1)) (linkAt b l) ≡ true → LinkHeld b l
-unfolding linkHeld
+unfolding linkHeld delayOf
 held-passed b l e =
     let p = passed _ _ e in
     let q = passed _ _ (p .1) in
     let r = passed _ _ (q .1) in
-    record { from-in = leb-false _ _ (p .0); to-in = leb-false _ _ (q .0); apart = eqb-false _ _ (r .0); above = r .1 }
+    let s = passed _ _ (r .1) in
+    record {
+      from-in = leb-false _ _ (p .0);
+      to-in = leb-false _ _ (q .0);
+      apart = eqb-false _ _ (r .0);
+      plain = omega (arith, ltb-false 0 (linkAt b l .delay .0) (s .0));
+      above = s .1;
+    }
 
 pub blank-passed : (x : Link) → linkBlank x ≡ true → x ≡ noLink
 unfolding linkBlank
 blank-passed x e =
     let p = passed _ _ e in
-    link-same x noLink (omega (arith, ltb-false 0 (x .from) (p .0))) (eqb-true _ _ (p .1))
+    let q = passed _ _ (p .1) in
+    link-same x noLink (omega (arith, ltb-false 0 (x .from) (p .0))) (omega (arith, ltb-false 0 (x .to) (q .0))) (eqb-true _ _ (q .1))
 
 later : (l : ℕ) → eqb (suc l) 0 ≡ false
 later l = ne-eqb (suc l) 0 (λ e. omega arith)
@@ -97,12 +111,12 @@ module _ (b : Board) (few : b .parts ≤ 64) (good : linksTest b ≡ true) where
 -- ---- and the links of a well formed board pass it
 module _ (b : Board) (w : WellFormed b) where
   held-passes : (l : ℕ) → l < b .links → linkHeld (b .parts) l (linkAt b (l - 1)) (linkAt b l) ≡ true
-  unfolding linkHeld pick
-  held-passes zero h = rw (lt-leb _ _ (w .from-in 0 h), lt-leb _ _ (w .to-in 0 h), ne-eqb _ _ (w .apart 0 h))
+  unfolding linkHeld delayOf pick
+  held-passes zero h = rw (lt-leb _ _ (w .from-in 0 h), lt-leb _ _ (w .to-in 0 h), ne-eqb _ _ (w .apart 0 h), w .plain 0 h)
   held-passes (suc l) h =
       let s = suc l in
       let one = below-one (linkAt b l) (linkAt b s) (omega (arith, w .to-in l (omega arith), w .parts-to)) (omega (arith, w .to-in s h, w .parts-to)) (w .ascends l h) in
-      rw (lt-leb _ _ (w .from-in s h), lt-leb _ _ (w .to-in s h), ne-eqb _ _ (w .apart s h), later l, one-less l, eq-eqb _ _ one)
+      rw (lt-leb _ _ (w .from-in s h), lt-leb _ _ (w .to-in s h), ne-eqb _ _ (w .apart s h), w .plain s h, later l, one-less l, eq-eqb _ _ one)
 
   link-passes : (l : ℕ) → l < 256 → linkTest b l ≡ true
   unfolding linkTest linkGood linkBlank pick

@@ -14,7 +14,7 @@ use Rattle.curve.specs.declared.Run.{Run}
 use Rattle.curve.specs.declared.Curve.{Curve}
 use Rattle.curve.specs.Curve.{Good}
 use Rattle.curve.specs.Answers.{flatOf}
-use Rattle.curve.proofs.GoodLaws.{every-at, every-all, goodb-good, good-goodb}
+use Rattle.curve.proofs.GoodLaws.{every-at, every-all, goodb-good, good-goodb, decides-goodb}
 use Rattle.curve.proofs.CurveLaws.{good-same, flat-good}
 use Rattle.board.specs.declared.Board.{Board}
 use Rattle.board.specs.Board.{WellFormed, curveAt, blankCurve}
@@ -77,12 +77,18 @@ module _ (b : Board) (w : WellFormed b) where
   unfolding curvesTest
   curves-pass = every-all (curveTest b) 64 curve-passes
 
--- ---- the ways of `well_formed`
-pub decides-same : (r s : Bool) (p : Type 0) → Decides r p → Decides s p → r ≡ s
-decides-same true s p d e = sym (e .no (d .yes refl))
-decides-same false true p d e = d .no (e .yes refl)
-decides-same false false p d e = refl
+-- ---- the ways of `curve_good` and `curve_blank`
+pub curve-good-is : (parts p : ℕ) (c : Curve) (r : Bool) → p < parts → Decides r (Good c) → r ≡ curveGood parts p c
+unfolding curveGood pick
+curve-good-is parts p c r h good = rw (lt-ltb p parts h) (decides-goodb r c good)
 
+pub curve-blank-is :
+    (c : Curve) (r : Bool) → c .fastest .0 ≤ 0 → c .power .0 ≤ 0 → c .count ≤ 0 → Decides r (Good (quickened c)) → r ≡ curveBlank c
+unfolding curveBlank pick
+curve-blank-is c r quick idle flat good =
+    rw (le-ltb 0 (c .fastest .0) quick, le-ltb 0 (c .power .0) idle, le-ltb 0 (c .count) flat) (decides-goodb r (quickened c) good)
+
+-- ---- the ways of `well_formed`
 refuses : (b : Board) → (WellFormed b → ⊥) → Decides false (WellFormed b)
 refuses b none = record { yes = clash; no = λ w. absurd (none w) }
 
@@ -122,6 +128,7 @@ module _ (b : Board) where
               from-in = λ l h. held-of b p₂ links l h (omega arith) .from-in;
               to-in = λ l h. held-of b p₂ links l h (omega arith) .to-in;
               apart = λ l h. held-of b p₂ links l h (omega arith) .apart;
+              plain = λ l h. held-of b p₂ links l h (omega arith) .plain;
               ascends = λ l h. ascends-of b p₂ links l h (omega arith);
               blank-curves = blank-curve-of b curves;
               blank-links = blank-of b p₂ links;

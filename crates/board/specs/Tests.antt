@@ -7,17 +7,14 @@ use Prim.Native.Nat.{ℕ, _-_}
 use lib.Dec.{ltb, leb, eqb}
 use lib.ListN.{replicate}
 use Rattle.base.specs.Pick.{pick}
+pub use Rattle.base.specs.Decides.{Decides}
 use Rattle.curve.specs.Tests.{every, goodb}
 use Rattle.curve.specs.declared.Ticks.{Ticks}
 use Rattle.curve.specs.declared.Curve.{Curve}
+use Rattle.board.specs.declared.Rule.the-variants.{A}
 use Rattle.board.specs.declared.Link.{Link}
 use Rattle.board.specs.declared.Board.{Board}
 use Rattle.board.specs.Board.{noLink, blankCurve, linkAt, curveAt}
-
--- a test says whether p holds
-pub record Decides (test : Bool) (p : Type 0) : Type 0 where
-  pub yes : test ≡ true → p
-  pub no : p → test ≡ true
 
 unfoldable pub blankLinks : List Link
 blankLinks = replicate 256 noLink
@@ -25,9 +22,9 @@ blankLinks = replicate 256 noLink
 unfoldable pub blankCurves : List Curve
 blankCurves = replicate 64 blankCurve
 
--- no links, and every curve blank
+-- rule A, no links, and every curve blank
 unfoldable pub emptyOf : Ticks → ℕ → Board
-emptyOf deadline parts = record { deadline = deadline; parts = parts; curve = blankCurves; links = 0; link = blankLinks }
+emptyOf deadline parts = record { rule = A; deadline = deadline; parts = parts; curve = blankCurves; links = 0; link = blankLinks }
 
 -- "in ascending order of from, then to": 1 where a stands before x, else 0
 unfoldable pub belowOf : Link → Link → ℕ
@@ -36,16 +33,17 @@ belowOf a x =
     pick (ltb (x .from) (a .from)) 0 (
     pick (ltb (a .to) (x .to)) 1 0))
 
--- link l, which is x, joins two parts and stands above the one before it
+-- link l, which is x, joins two parts, has no delay and stands above the one before it
 unfoldable pub linkHeld : ℕ → ℕ → Link → Link → Bool
 linkHeld parts l before x =
     pick (leb parts (x .from)) false (
     pick (leb parts (x .to)) false (
     pick (eqb (x .from) (x .to)) false (
-    pick (eqb l 0) true (eqb (belowOf before x) 1))))
+    pick (ltb 0 (x .delay .0)) false (
+    pick (eqb l 0) true (eqb (belowOf before x) 1)))))
 
 unfoldable pub linkBlank : Link → Bool
-linkBlank x = pick (ltb 0 (x .from)) false (eqb (x .to) 0)
+linkBlank x = pick (ltb 0 (x .from)) false (pick (ltb 0 (x .to)) false (eqb (x .delay .0) 0))
 
 unfoldable pub linkGood : ℕ → ℕ → ℕ → Link → Link → Bool
 linkGood parts links l before x = pick (ltb l links) (linkHeld parts l before x) (linkBlank x)

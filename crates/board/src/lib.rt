@@ -1,20 +1,29 @@
-// The board by value: a deadline, parts with their curves, and links in ascending order of from, then to.
+// The board by value: a deadline and its rule, parts with their curves, and links in ascending order of from, then to.
 ghost use mathlib.Core.Path.{_≡_};
 ghost use Prim.Native.Nat.{_<_};
 ghost use Rattle.curve.specs.Tests.{both};
-ghost use Rattle.board.specs.Board.{blankCurve, usable, WellFormed};
+ghost use Rattle.board.specs.Board.{plainLink, delayOf, blankCurve, ruleNumber, ruleOf, usableUnder, usable, WellFormed};
 ghost use Rattle.board.specs.Tests.{Decides, blankCurves, blankLinks, emptyOf, belowOf, linkBlank, linkHeld, linkGood, linksTest, curveBlank, curveGood, curvesTest};
 use curve::Curve;
 use curve::Microwatts;
 use curve::Ticks;
 
+// How many ticks of a deadline a path may take.
+pub enum Rule {
+    A,
+    B,
+}
+
+// A link leads from one part to another and takes ticks of its own.
 pub struct Link {
     pub from: usize,
     pub to: usize,
+    pub delay: Ticks,
 }
 
 // There are `parts` parts and `links` links: the first of `curve` and of `link` are the board's, the others are blank.
 pub struct Board {
+    pub rule: Rule,
     pub deadline: Ticks,
     pub parts: usize,
     pub curve: [Curve; 64],
@@ -37,20 +46,37 @@ fn blank_curves() -> [Curve; 64]
     [blank; 64]
 }
 
+// A link without a delay.
+pub fn plain_link(from: usize, to: usize) -> Link
+    ensures { λ r. ⌜ r ≡ plainLink from to ⌝ }
+{
+    let delay = Ticks(0);
+    Link { from, to, delay }
+}
+
+// The ticks that a link takes.
+pub fn link_delay(l: Link) -> u32
+    ensures { λ r. ⌜ r ≡ delayOf l ⌝ }
+{
+    l.delay.0
+}
+
 // All places without a link.
 fn blank_links() -> [Link; 256]
     ensures { λ r. ⌜ r ≡ blankLinks ⌝ }
 {
-    [Link { from: 0, to: 0 }; 256]
+    let blank = plain_link(0, 0);
+    [blank; 256]
 }
 
-// A board to be filled: no links, and a blank curve at every part.
+// A board to be filled: rule A, no links, and a blank curve at every part.
 pub fn empty(deadline: Ticks, parts: usize) -> Board
     ensures { λ r. ⌜ r ≡ emptyOf deadline parts ⌝ }
 {
     let curve = blank_curves();
     let link = blank_links();
     Board {
+        rule: Rule::A,
         deadline: deadline,
         parts: parts,
         curve: curve,
@@ -59,11 +85,42 @@ pub fn empty(deadline: Ticks, parts: usize) -> Board
     }
 }
 
+// A rule's number: 0 for A, 1 for B.
+pub fn rule_number(rule: Rule) -> u32
+    ensures { λ r. ⌜ r ≡ ruleNumber rule ⌝ }
+{
+    match rule {
+        Rule::A => 0,
+        Rule::B => 1,
+    }
+}
+
+// The rule that has a number; a number that is none gives B.
+pub fn rule_of(number: u32) -> Rule
+    ensures { λ r. ⌜ r ≡ ruleOf number ⌝ }
+{
+    if number == 0 {
+        return Rule::A;
+    }
+    Rule::B
+}
+
+// The ticks of a deadline that a path may take.
+fn usable_under(rule: Rule, deadline: u32) -> u32
+    ensures { λ r. ⌜ r ≡ usableUnder rule deadline ⌝ }
+{
+    match rule {
+        Rule::A => deadline,
+        Rule::B => deadline - deadline / 64,
+    }
+}
+
 // The usable deadline: the ticks that a path may take.
 pub fn usable_deadline(b: Board) -> u32
     ensures { λ r. ⌜ r ≡ usable b ⌝ }
 {
-    b.deadline.0
+    let rule = b.rule;
+    usable_under(rule, b.deadline.0)
 }
 
 // 1 where link a stands before link x in the order of from, then to; else 0.
@@ -98,10 +155,13 @@ fn link_blank(l: Link) -> bool
     if 0 < l.from {
         return false;
     }
-    l.to == 0
+    if 0 < l.to {
+        return false;
+    }
+    l.delay.0 == 0
 }
 
-// Whether link l, which is x, joins two of the parts and stands above the one before it.
+// Whether link l, which is x, joins two of the parts, has no delay and stands above the one before it.
 fn link_held(parts: usize, l: usize, before: Link, x: Link) -> bool
     ensures { λ r. ⌜ r ≡ linkHeld parts l before x ⌝ }
 {
@@ -112,6 +172,9 @@ fn link_held(parts: usize, l: usize, before: Link, x: Link) -> bool
         return false;
     }
     if x.from == x.to {
+        return false;
+    }
+    if 0 < x.delay.0 {
         return false;
     }
     if l == 0 {

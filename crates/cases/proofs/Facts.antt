@@ -12,11 +12,12 @@ use Rattle.theory.specs.Budget.{greatest, arrive}
 use Rattle.groups.specs.Number.{shortestEnd, groupsFrom, numberAt, encodeIn, encode}
 use Rattle.curve.specs.Curve.{lengthAt, savingAt, ticksOf, savingOf, savingsOf}
 use Rattle.curve.specs.Tests.{every}
+use Rattle.board.specs.declared.Rule.the-variants.{A}
 use Rattle.board.specs.declared.Board.{Board}
-use Rattle.board.specs.Board.{usable, view, blankCurve}
+use Rattle.board.specs.Board.{usable, view, blankCurve, usableUnder, delayOf}
 use Rattle.board.specs.Tests.{blankCurves, blankLinks, belowOf}
 use Rattle.times.specs.Times.{table}
-use Rattle.edits.specs.Edits.{countBefore, placeOf, hasLinkOf, filled, insertedAt, insertedOf, removedAt, removedOf, addable, withDeadlineOf, withLinkOf, withoutLinkOf}
+use Rattle.edits.specs.Edits.{countBefore, placeOf, some, sameEnds, hasLinkOf, filled, insertedAt, insertedOf, removedAt, removedOf, addable, withDeadlineOf, withLinkOf, withoutLinkOf}
 use Rattle.fields.specs.Parse.{got, and-then, repeat, rangedAt, fieldAt}
 use Rattle.fields.specs.Writing.{inRow}
 use Rattle.fields.specs.CurveFile.{bare, falls, runFrom, runsFrom, curveFrom, runsBytes, curveBytes}
@@ -45,12 +46,12 @@ pub record Facts : Type 0 where
   pub ofLong5 : Known (long 5) (5 ∷ [])
   pub ofLinked : Known (linkedK 10) (2 ∷ 3 ∷ 1 ∷ 4 ∷ [])
   pub ofShorter : Known shorterK (4 ∷ 3 ∷ 2 ∷ 5 ∷ [])
-  pub readLinked : designOf (fileOf (linkedK 9)) ≡ got (linkedK 9) (length (fileOf (linkedK 9)))
-  pub readLong : designOf (fileOf (long 4)) ≡ got (long 4) (length (fileOf (long 4)))
+  pub readLinked : designOf A (fileOf (linkedK 9)) ≡ got (linkedK 9) (length (fileOf (linkedK 9)))
+  pub readLong : designOf A (fileOf (long 4)) ≡ got (long 4) (length (fileOf (long 4)))
 
 pub facts : Facts
-unfolding best beats fits yields allDelays settled inTime onCurves noLater costOf endsOf endsBy table every arrive greatest share sum tick view
-    usable savingOf ticksOf savingsOf lengthAt savingAt pick designOf headFrom bodyFrom linkedFrom wholeAt linksFrom linkFrom above partsFrom
+unfolding best beats fits yields allDelays settled inTime onCurves noLater costOf endsOf endsBy table every arrive greatest share sum tick view delayOf
+    usable usableUnder savingOf ticksOf savingsOf lengthAt savingAt pick designOf headFrom bodyFrom linkedFrom wholeAt linksFrom linkFrom above partsFrom
     partFrom inPlace versionAt curveFrom runsFrom runFrom falls bare fieldAt rangedAt repeat and-then numberAt groupsFrom shortestEnd fileOf
     partsBytes linksBytes linkedBytes bodyBytes headBytes curveBytes runsBytes inRow encode encodeIn blankCurves blankLinks blankCurve belowOf K D flat long linkedK shorterK
     curve board
@@ -80,7 +81,7 @@ pub record Changes : Type 0 where
   pub shorten : changedOf K (plainly (Deadline (record { 0 = 9 }))) ≡ shorterK
 
 pub changes : Changes
-unfolding changedOf withDeadlineOf withLinkOf withoutLinkOf addable hasLinkOf placeOf countBefore insertedOf insertedAt removedOf removedAt filled
+unfolding changedOf withDeadlineOf withLinkOf withoutLinkOf addable hasLinkOf sameEnds some placeOf countBefore insertedOf insertedAt removedOf removedAt filled
     belowOf sum pick orderOf kindFrom deadlineFrom orders.linkFrom and-then fieldAt rangedAt numberAt groupsFrom shortestEnd K linkedK shorterK
     curve board
 changes = record {

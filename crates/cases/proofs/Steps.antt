@@ -7,17 +7,14 @@ use Prim.Native.Nat.{ℕ, _<_}
 use lib.Count.{ones}
 use lib.Dec.{ltb, leb}
 use lib.ListN.{length}
-use borrow.Author.Tests.{leb-true, ltb-true}
+use borrow.Author.Tests.{lt-ltb, leb-true, ltb-true}
 use Rattle.base.specs.Pick.{pick}
 use Rattle.theory.specs.Sum.{cells}
-use Rattle.refusal.specs.declared.Why.the-variants.{TooSlow}
-use Rattle.refusal.specs.declared.Answer.the-variants.{Refused}
-use Rattle.curve.specs.declared.Power.{Power}
+use Rattle.refusal.specs.declared.Answer.{Answer}
+use Rattle.refusal.specs.declared.Answer.the-variants.{Done}
 use Rattle.curve.specs.Answers.{powerAtOf}
 use Rattle.curve.specs.Tests.{every}
 use Rattle.curve.proofs.GoodLaws.{every-at}
-use Rattle.marks.specs.Marks.{Exactly}
-use Rattle.marks.proofs.Bits.{exactly-once}
 use Rattle.board.specs.declared.Board.{Board}
 use Rattle.board.specs.Board.{curveAt, usable, view}
 use Rattle.cone.specs.Cone.{Upstream, Downstream}
@@ -33,11 +30,17 @@ use Rattle.desk.specs.declared.Tally.{Tally}
 use Rattle.desk.specs.declared.Desk.{Desk}
 use Rattle.desk.specs.declared.Loaded.{Loaded}
 use Rattle.desk.specs.declared.Ordered.{Ordered}
-use Rattle.desk.specs.Load.{loadRefused}
-use Rattle.desk.specs.Order.{oneRefused, refusedTally, orderRefused}
-use Rattle.cases.specs.Promised.{padded, Shows, Another, Marks, KinAre, LoadRefused, OrderMade, OrderRefused, Counts}
+use Rattle.desk.specs.Held.{Standing, holding}
+use Rattle.questions.specs.declared.ConeAsked.{ConeAsked}
+use Rattle.questions.specs.declared.FamilyAsked.{FamilyAsked}
+use Rattle.questions.specs.declared.PowerAsked.{PowerAsked}
+use Rattle.questions.specs.Tried.{partTried, Said}
+use Rattle.questions.specs.Sets.{coneRefused, ConeGiven, UpstreamSaid, DownstreamSaid, familyRefused, FamilyGiven, FamilySaid}
+use Rattle.questions.specs.Numbers.{powerRefused, powerTold, PowerSaid}
+use Rattle.questions.proofs.QuestionLaws.{upstream-once, downstream-once, families-once, power-once}
+use Rattle.cases.specs.Promised.{padded, Shows, Another, Answers, coneIs, familyIs, OrderMade, OrderRefused, Counts}
 use Rattle.cases.proofs.Best.{endsOf, timesBy, fits, fits-budget}
-use Rattle.cases.proofs.Judged.{Known, known-formed, At, at-budget, Made}
+use Rattle.cases.proofs.Judged.{Known, known-formed, At, at-budget, Made, Turned}
 
 -- the budget that was worked out
 abbrev pub worked : Board → List ℕ → Budget
@@ -73,14 +76,7 @@ module _ (b : Board) (delays : List ℕ) (k : Known b delays) (others : List ℕ
     };
   }
 
--- ---- questions
--- a set that is found has those marks
-set-step :
-    {R : ℕ → Type 0} {found set count : ℕ} → Exactly R found → found ≡ set → ones set ≡ count → (s : ℕ) → Exactly R s → Marks s set count
-set-step {R} {found} is found-is many s given =
-    let same = exactly-once R s found given is ∙ found-is in
-    record { set-is = same; count-is = ap ones same ∙ many }
-
+-- ---- what is held
 module _ {b : Board} {n : Tally} {d : Desk} {t : Tally} (at : At b n d t) where
   -- what holds of the board and the budget that was worked out holds of what is held
   module _ {delays : List ℕ} (k : Known b delays) where
@@ -96,61 +92,69 @@ module _ {b : Board} {n : Tally} {d : Desk} {t : Tally} (at : At b n d t) where
         {ds ends : List ℕ} {total : ℕ} → Another b (worked b delays) ds ends total → Another (d .board) (d .budget) ds ends total
     also-step {ds} {ends} {total} = held-step (λ x r. Another x r ds ends total)
 
-    pub kin-step :
-        {part parents children : ℕ} →
-        ((k : Kin) → KinOf (Critical b (worked b delays .start) (worked b delays .end)) part k → KinAre k parents children) →
-        (k : Kin) → KinOf (Critical (d .board) (d .budget .start) (d .budget .end)) part k → KinAre k parents children
-    kin-step {part} {parents} {children} =
-        held-step (λ x r. (k : Kin) → KinOf (Critical x (r .start) (r .end)) part k → KinAre k parents children)
-
-  pub power-step : (part delay : ℕ) {a : Power} → powerAtOf (curveAt b part) delay ≡ a → powerAtOf (curveAt (d .board) part) delay ≡ a
-  power-step part delay is = ap (λ (x : Board). powerAtOf (curveAt x part) delay) (at .board) ∙ is
-
-  there : {part : ℕ} → part < b .parts → part < d .board .parts
-  there h = rw (at .board) h
-
-  pub upstream-step :
-      {part set count : ℕ} → part < b .parts → upstreamOf b part ≡ set → ones set ≡ count → (s : ℕ) → Upstream (d .board) part s →
-      Marks s set count
-  upstream-step {part} h is =
-      set-step (upstream-is (d .board) (at .holding .kept .formed) part (there h)) (ap (λ (x : Board). upstreamOf x part) (at .board) ∙ is)
-
-  pub downstream-step :
-      {part set count : ℕ} → part < b .parts → downstreamOf b part ≡ set → ones set ≡ count → (s : ℕ) → Downstream (d .board) part s →
-      Marks s set count
-  downstream-step {part} h is =
-      set-step (downstream-is (d .board) (at .holding .kept .formed) part (there h)) (ap (λ (x : Board). downstreamOf x part) (at .board) ∙ is)
-
   pub counts-are : Counts t (n .taken) (n .refused)
   counts-are = record { taken-are = ap (λ (x : Tally). x .taken) (at .tally); refused-are = ap (λ (x : Tally). x .refused) (at .tally) }
 
--- ---- a load that is refused
-pub refused-load :
-    (r : Loaded) (ticks : ℕ) (path : List ℕ) (d : Desk) (t : Tally) → r ≡ loadRefused (Refused TooSlow ticks) path d t →
-    LoadRefused d t r 10 ticks path
-refused-load r ticks path d t is = record {
-  refused = record { why = TooSlow; numbered = refl; is = ap (λ (x : Loaded). x .answer) is };
-  path-is = ap (λ (x : Loaded). x .path) is;
-  desk-stays = ap (λ (x : Loaded). x .desk) is;
-  tally-stays = ap (λ (x : Loaded). x .tally) is;
-}
+  -- ---- questions: an answer that is allowed is the only one
+  stands : Standing d
+  stands = holding (at .holding)
+
+  module _ {part : ℕ} (here : part < b .parts) where
+    there : part < d .board .parts
+    there = rw (at .board) here
+
+    asked : partTried d part ≡ Done
+    unfolding partTried pick
+    asked = rw (at .holding .held, lt-ltb part (d .board .parts) there)
+
+    said : {R : Type 0} (refused : Answer → R) (Is : R → Type 0) (r : R) → Is r → Said (partTried d part) d refused Is r
+    said refused Is r is = subst (λ (a : Answer). Said a d refused Is r) (sym asked) (λ st. is)
+
+    pub power-step :
+        (delay : ℕ) {told : PowerAsked} → powerTold (powerAtOf (curveAt b part) delay) ≡ told → Answers (PowerSaid d part delay) told
+    unfolding PowerSaid
+    power-step delay {told} is =
+        let given : told ≡ powerTold (powerAtOf (curveAt (d .board) part) delay) =
+        sym (ap (λ (x : Board). powerTold (powerAtOf (curveAt x part) delay)) (at .board) ∙ is) in
+        let so = said powerRefused (λ r. r ≡ powerTold (powerAtOf (curveAt (d .board) part) delay)) told given in
+        record { result = told; said = so; only = λ r s. power-once d stands part delay r told s so }
+
+    cone-given : (C : ℕ → Type 0) {found set count : ℕ} → C found → found ≡ set → ones set ≡ count → ConeGiven C (coneIs set count)
+    cone-given C is found many = record { done = refl; set = subst C found is; count = sym many }
+
+    pub upstream-step : {set count : ℕ} → upstreamOf b part ≡ set → ones set ≡ count → Answers (UpstreamSaid d part) (coneIs set count)
+    unfolding UpstreamSaid
+    upstream-step {set} {count} is many =
+        let found = ap (λ (x : Board). upstreamOf x part) (at .board) ∙ is in
+        let given = cone-given (Upstream (d .board) part) (upstream-is (d .board) (at .holding .kept .formed) part there) found many in
+        let so = said coneRefused (ConeGiven (Upstream (d .board) part)) (coneIs set count) given in
+        record { result = coneIs set count; said = so; only = λ r s. upstream-once d stands part r (coneIs set count) s so }
+
+    pub downstream-step : {set count : ℕ} → downstreamOf b part ≡ set → ones set ≡ count → Answers (DownstreamSaid d part) (coneIs set count)
+    unfolding DownstreamSaid
+    downstream-step {set} {count} is many =
+        let found = ap (λ (x : Board). downstreamOf x part) (at .board) ∙ is in
+        let given = cone-given (Downstream (d .board) part) (downstream-is (d .board) (at .holding .kept .formed) part there) found many in
+        let so = said coneRefused (ConeGiven (Downstream (d .board) part)) (coneIs set count) given in
+        record { result = coneIs set count; said = so; only = λ r s. downstream-once d stands part r (coneIs set count) s so }
+
+    pub kin-step :
+        {delays : List ℕ} → Known b delays → {parents children : ℕ} →
+        KinOf (Critical b (worked b delays .start) (worked b delays .end)) part (record { parents = parents; children = children }) →
+        Answers (FamilySaid d part) (familyIs parents children)
+    unfolding FamilySaid
+    kin-step k {parents} {children} is =
+        let sets = held-step k (λ x r. KinOf (Critical x (r .start) (r .end)) part (record { parents = parents; children = children })) is in
+        let given : FamilyGiven d part (familyIs parents children) = record { done = refl; sets = sets; parent-count = refl; child-count = refl } in
+        let so = said familyRefused (FamilyGiven d part) (familyIs parents children) given in
+        record { result = familyIs parents children; said = so; only = λ r s. families-once d stands part r (familyIs parents children) s so }
 
 -- ---- orders
 pub made-order :
     {r : Ordered} {took : ℕ} {b : Board} {n : Tally} {bytes : List ℕ} → took ≡ length bytes → Made r took b n → OrderMade bytes r
 made-order all m = record { done = m .done; took-all = m .took-is ∙ all; path-is = m .path-is }
 
-module _ (r : Ordered) (ticks took : ℕ) (path : List ℕ) (d : Desk) (t : Tally) (is : r ≡ orderRefused TooSlow ticks took path d t) where
-  pub refused-order : {bytes : List ℕ} → took ≡ length bytes → OrderRefused bytes d r 10 ticks path
-  refused-order all = record {
-    refused = record { why = TooSlow; numbered = refl; is = ap (λ (x : Ordered). x .answer) is };
-    took-all = ap (λ (x : Ordered). x .took) is ∙ all;
-    path-is = ap (λ (x : Ordered). x .path) is;
-    desk-stays = ap (λ (x : Ordered). x .desk) is;
-  }
-
-  pub refused-at : {b : Board} {n : Tally} → At b n d t → At b (oneRefused n) (r .desk) (r .tally)
-  unfolding refusedTally pick
-  refused-at {b} {n} at =
-      subst (λ (x : Ordered). At b (oneRefused n) (x .desk) (x .tally)) (sym is)
-      (record { board = at .board; holding = at .holding; tally = ap oneRefused (at .tally) })
+pub refused-order :
+    {r : Ordered} {took ticks : ℕ} {path : List ℕ} {d : Desk} {b : Board} {n : Tally} {bytes : List ℕ} → took ≡ length bytes →
+    Turned r took ticks path d b n → OrderRefused bytes d r 10 ticks path
+refused-order all m = record { refused = m .refused; took-all = m .took-is ∙ all; path-is = m .path-is; desk-stays = m .desk-stays }

@@ -6,13 +6,14 @@ use lib.ListN.{length, replicate}
 use Rattle.curve.specs.declared.Run.{Run}
 use Rattle.curve.specs.declared.Curve.{Curve}
 use Rattle.curve.specs.Curve.{noRun}
+use Rattle.board.specs.declared.Rule.the-variants.{A}
 use Rattle.board.specs.declared.Link.{Link}
 use Rattle.board.specs.declared.Board.{Board}
-use Rattle.board.specs.Board.{noLink, blankCurve}
+use Rattle.board.specs.Board.{plainLink, noLink, blankCurve}
 
 -- "runs as length at saving"
 abbrev pub run : ℕ → ℕ → Run
-run length saving = record { length = record { 0 = length }; saving = record { 0 = saving } }
+run ticks saving = record { length = record { 0 = ticks }; saving = record { 0 = saving } }
 
 -- "fastest; power; runs"; places past the last run are blank
 unfoldable pub curve : ℕ → ℕ → List Run → Curve
@@ -24,11 +25,12 @@ curve fastest power runs = record {
 }
 
 abbrev pub link : ℕ → ℕ → Link
-link from to = record { from = from; to = to }
+link from to = plainLink from to
 
 -- "deadline, links, curves"; places past the last part and link are blank
 unfoldable pub board : ℕ → List Link → List Curve → Board
 board deadline links curves = record {
+  rule = A;
   deadline = record { 0 = deadline };
   parts = length curves;
   curve = curves ++ replicate (64 - length curves) blankCurve;

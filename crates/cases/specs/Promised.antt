@@ -7,19 +7,12 @@ use Prim.Native.Nat.{ℕ, _-_, _≤_, _<_}
 use lib.Count.{ones}
 use lib.ListN.{length, replicate}
 use Rattle.theory.specs.Sum.{cells}
-use Rattle.refusal.specs.declared.Why.{Why}
 use Rattle.refusal.specs.declared.Answer.the-variants as answer
-use Rattle.refusal.specs.Refusal.{numberOf}
+use Rattle.refusal.specs.Refusal.{by, refusal}
 use Rattle.groups.specs.declared.Read.the-variants as read
 use Rattle.groups.specs.Number.{numberAt}
-use Rattle.curve.specs.declared.Power.the-variants as power
-use Rattle.curve.specs.Answers.{powerAtOf}
+use Rattle.board.specs.declared.Rule.the-variants.{A}
 use Rattle.board.specs.declared.Board.{Board}
-use Rattle.board.specs.Board.{curveAt}
-use Rattle.cone.specs.Cone.{Upstream, Downstream}
-use Rattle.kin.specs.declared.Kin.{Kin}
-use Rattle.kin.specs.Critical.{Critical}
-use Rattle.kin.specs.Kin.{KinOf}
 use Rattle.slow.specs.Walk.{trailOf}
 use Rattle.budget.specs.declared.Budget.{Budget}
 use Rattle.budget.specs.Budget.{Allowed}
@@ -31,6 +24,12 @@ use Rattle.desk.specs.declared.Loaded.{Loaded}
 use Rattle.desk.specs.declared.Ordered.{Ordered}
 use Rattle.desk.specs.Load.{LoadSaid}
 use Rattle.desk.specs.Order.{OrderSaid}
+use Rattle.questions.specs.declared.Marked.{Marked}
+use Rattle.questions.specs.declared.ConeAsked.{ConeAsked}
+use Rattle.questions.specs.declared.FamilyAsked.{FamilyAsked}
+use Rattle.questions.specs.declared.PowerAsked.{PowerAsked}
+use Rattle.questions.specs.Sets.{UpstreamSaid, DownstreamSaid, FamilySaid}
+use Rattle.questions.specs.Numbers.{PowerSaid}
 use Rattle.cases.specs.Rows.{Step, Case}
 use Rattle.cases.specs.Rows as row
 
@@ -38,11 +37,11 @@ use Rattle.cases.specs.Rows as row
 unfoldable pub padded : List ℕ → List ℕ
 padded xs = xs ++ replicate (64 - length xs) 0
 
--- an answer that is refusal `number` with that place; `refused` makes a refusal of its kind
-pub record RefusedBy {A : Type 0} (refused : Why → ℕ → A) (a : A) (number place : ℕ) : Type 0 where
-  pub why : Why
-  pub numbered : numberOf why ≡ number
-  pub is : a ≡ refused why place
+-- what a call comes to: its contract allows a result, and every result that it allows is so
+pub record Comes {R : Type 0} (Said Is : R → Type 0) : Type 0 where
+  pub result : R
+  pub said : Said result
+  pub only : (r : R) → Said r → Is r
 
 -- ---- budgets
 pub record Shows (r : Budget) (delays ends : List ℕ) (total : ℕ) : Type 0 where
@@ -64,18 +63,34 @@ pub record Another (b : Board) (held : Budget) (delays ends : List ℕ) (total :
   pub same : other .total ≡ held .total
   pub arrives : Later (held .end) (other .end)
 
--- ---- sets
-pub record Marks (s set count : ℕ) : Type 0 where
-  pub set-is : s ≡ set
-  pub count-is : ones s ≡ count
+-- ---- questions
+-- the question has this answer, in full, and no other
+abbrev pub Answers : {R : Type 0} → (R → Type 0) → R → Type 0
+Answers Said r = Comes Said (λ r′. r′ ≡ r)
 
-pub record KinAre (k : Kin) (parents children : ℕ) : Type 0 where
-  pub parents-are : k .parents ≡ parents
-  pub children-are : k .children ≡ children
+-- "the number of parts marked"
+abbrev pub marks : ℕ → ℕ → Marked
+marks set count = record { set = set; count = count }
+
+abbrev pub powerIs : ℕ → PowerAsked
+powerIs watts = record { answer = answer.Done; power = record { 0 = watts } }
+
+abbrev pub powerNot : ℕ → ℕ → PowerAsked
+powerNot number place = record { answer = refusal number place; power = record { 0 = 0 } }
+
+abbrev pub coneIs : ℕ → ℕ → ConeAsked
+coneIs set count = record { answer = answer.Done; cone = marks set count }
+
+abbrev pub familyIs : ℕ → ℕ → FamilyAsked
+familyIs parents children = record {
+  answer = answer.Done;
+  parents = marks parents (ones parents);
+  children = marks children (ones children);
+}
 
 -- ---- loads and orders
 pub record LoadRefused (d : Desk) (t : Tally) (r : Loaded) (number place : ℕ) (path : List ℕ) : Type 0 where
-  pub refused : RefusedBy answer.Refused (r .answer) number place
+  pub refused : r .answer ≡ refusal number place
   pub path-is : r .path ≡ trailOf path
   pub desk-stays : r .desk ≡ d
   pub tally-stays : r .tally ≡ t
@@ -86,7 +101,7 @@ pub record OrderMade (bytes : List ℕ) (r : Ordered) : Type 0 where
   pub path-is : r .path ≡ trailOf []
 
 pub record OrderRefused (bytes : List ℕ) (d : Desk) (r : Ordered) (number place : ℕ) (path : List ℕ) : Type 0 where
-  pub refused : RefusedBy answer.Refused (r .answer) number place
+  pub refused : r .answer ≡ refusal number place
   pub took-all : r .took ≡ length bytes
   pub path-is : r .path ≡ trailOf path
   pub desk-stays : r .desk ≡ d
@@ -99,17 +114,14 @@ pub record Counts (t : Tally) (taken refused : ℕ) : Type 0 where
 abbrev pub StepPromised : Step → (Desk → Tally → Type 0) → Desk → Tally → Type 0
 StepPromised (row.holds delays ends total) next d t = Shows (d .budget) delays ends total × next d t
 StepPromised (row.also delays ends total) next d t = Another (d .board) (d .budget) delays ends total × next d t
-StepPromised (row.costs part delay watts) next d t =
-    (powerAtOf (curveAt (d .board) part) delay ≡ power.At (record { 0 = watts })) × next d t
-StepPromised (row.costs-not part delay number place) next d t =
-    RefusedBy power.Refused (powerAtOf (curveAt (d .board) part) delay) number place × next d t
-StepPromised (row.upstream part set count) next d t = ((s : ℕ) → Upstream (d .board) part s → Marks s set count) × next d t
-StepPromised (row.downstream part set count) next d t = ((s : ℕ) → Downstream (d .board) part s → Marks s set count) × next d t
-StepPromised (row.kin part parents children) next d t =
-    ((k : Kin) → KinOf (Critical (d .board) (d .budget .start) (d .budget .end)) part k → KinAre k parents children) × next d t
-StepPromised (row.order bytes) next d t = (r : Ordered) → OrderSaid d bytes t r → OrderMade bytes r × next (r .desk) (r .tally)
+StepPromised (row.costs part delay watts) next d t = Answers (PowerSaid d part delay) (powerIs watts) × next d t
+StepPromised (row.costs-not part delay number place) next d t = Answers (PowerSaid d part delay) (powerNot number place) × next d t
+StepPromised (row.upstream part set count) next d t = Answers (UpstreamSaid d part) (coneIs set count) × next d t
+StepPromised (row.downstream part set count) next d t = Answers (DownstreamSaid d part) (coneIs set count) × next d t
+StepPromised (row.kin part parents children) next d t = Answers (FamilySaid d part) (familyIs parents children) × next d t
+StepPromised (row.order bytes) next d t = Comes (OrderSaid d bytes t) (λ r. OrderMade bytes r × next (r .desk) (r .tally))
 StepPromised (row.order-not bytes number place path) next d t =
-    (r : Ordered) → OrderSaid d bytes t r → OrderRefused bytes d r number place path × next (r .desk) (r .tally)
+    Comes (OrderSaid d bytes t) (λ r. OrderRefused bytes d r number place path × next (r .desk) (r .tally))
 StepPromised (row.tally taken refused) next d t = Counts t taken refused × next d t
 
 unfoldable pub StepsPromised : List Step → Desk → Tally → Type 0
@@ -118,13 +130,13 @@ StepsPromised (s ∷ steps) d t = StepPromised s (StepsPromised steps) d t
 
 -- a row of the table
 unfoldable pub Promised : Case → Type 0
-Promised (row.file b bytes) = (fileOf b ≡ bytes) × (designOf bytes ≡ got b (length bytes))
+Promised (row.file b bytes) = (fileOf b ≡ bytes) × (designOf A bytes ≡ got b (length bytes))
 Promised (row.board b steps) =
-    (d : Desk) (t : Tally) (r : Loaded) → LoadSaid d (fileOf b) t r → (r .answer ≡ answer.Done) × StepsPromised steps (r .desk) (r .tally)
+    (d : Desk) (t : Tally) → Comes (LoadSaid d (fileOf b) t) (λ r. (r .answer ≡ answer.Done) × StepsPromised steps (r .desk) (r .tally))
 Promised (row.board-not b number place path) =
-    (d : Desk) (t : Tally) (r : Loaded) → LoadSaid d (fileOf b) t r → LoadRefused d t r number place path
+    (d : Desk) (t : Tally) → Comes (LoadSaid d (fileOf b) t) (λ r. LoadRefused d t r number place path)
 Promised (row.number bytes value) = numberAt bytes 0 ≡ read.Number value (length bytes)
-Promised (row.number-not bytes number place) = RefusedBy read.Refused (numberAt bytes 0) number place
+Promised (row.number-not bytes number place) = numberAt bytes 0 ≡ read.Refused (by number) place
 Promised (row.both one other) = Promised one × Promised other
 
 -- every row of a table

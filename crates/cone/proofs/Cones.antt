@@ -10,7 +10,7 @@ use Rattle.marks.specs.Marks.{bit, oneOf}
 use Rattle.marks.proofs.Bits.{bit-one-same, bit-one-other, one-fits, exactly-once}
 use Rattle.board.specs.declared.Board.{Board}
 use Rattle.board.specs.Board.{Linked, WellFormed}
-use Rattle.board.specs.Path.{Path, one, more, Reach, here, by}
+use Rattle.board.specs.Leads.{Leads, one, more, Reach, here, by}
 use Rattle.cone.specs.Cone.{Downstream, Upstream}
 use Rattle.cone.specs.Sweeps.{rowsOf, coneOf, downstreamOf, upstreamOf}
 use Rattle.cone.proofs.Marked.{rows-fit, row-linked, column-linked, linked-row, linked-column}
@@ -19,25 +19,25 @@ use Rattle.cone.proofs.Sweeping.{Reached, start, step, reached-fits, re
 -- ---- paths
 module _ (b : Board) where
   -- a path and a link after it
-  pub path-link : {p q r : ℕ} → Path b p q → Linked b q r → Path b p r
+  pub path-link : {p q r : ℕ} → Leads b p q → Linked b q r → Leads b p r
   path-link (one l) m = more l (one m)
   path-link (more l t) m = more l (path-link t m)
 
-  pub reach-path : {p q r : ℕ} → Reach b p q → Linked b q r → Path b p r
+  pub reach-path : {p q r : ℕ} → Reach b p q → Linked b q r → Leads b p r
   reach-path {p} {q} {r} (here e) m = one {p = p} {q = r} (rw e m)
   reach-path (by t) m = path-link t m
 
-  pub path-reach : {p q r : ℕ} → Linked b p q → Reach b q r → Path b p r
+  pub path-reach : {p q r : ℕ} → Linked b p q → Reach b q r → Leads b p r
   path-reach l (here e) = rw (← e) (one l)
   path-reach l (by t) = more l t
 
 -- ---- what is on a path is a part of the board
 module _ (b : Board) (ok : WellFormed b) where
-  pub path-from : {p q : ℕ} → Path b p q → p < b .parts
+  pub path-from : {p q : ℕ} → Leads b p q → p < b .parts
   path-from (one l) = omega (arith, ok .from-in (l .link) (l .here), l .from)
   path-from (more l t) = omega (arith, ok .from-in (l .link) (l .here), l .from)
 
-  pub path-to : {p q : ℕ} → Path b p q → q < b .parts
+  pub path-to : {p q : ℕ} → Leads b p q → q < b .parts
   path-to (one l) = omega (arith, ok .to-in (l .link) (l .here), l .to)
   path-to (more l t) = path-to t
 
@@ -56,7 +56,7 @@ one-is-it p q h = ⊎-elim (λ e. e) (λ ne. absurd (omega (arith, bit-one-other
 
 module _ (b : Board) (ok : WellFormed b) where
   -- ---- along the links
-  pub walk : {from a q : ℕ} → Reached (rowsOf b false) from a → Path b a q → Reached (rowsOf b false) from q
+  pub walk : {from a q : ℕ} → Reached (rowsOf b false) from a → Leads b a q → Reached (rowsOf b false) from q
   walk r (one l) = step r (linked-row b ok _ _ l)
   walk r (more l t) = walk (step r (linked-row b ok _ _ l)) t
 
@@ -65,7 +65,7 @@ module _ (b : Board) (ok : WellFormed b) where
   reached-down (step r h) = by (reach-path b (reached-down r) (row-linked b ok _ _ h))
 
   -- ---- back
-  walk-back : {from p q : ℕ} → Reached (rowsOf b true) from p → Path b q p → Reached (rowsOf b true) from q
+  walk-back : {from p q : ℕ} → Reached (rowsOf b true) from p → Leads b q p → Reached (rowsOf b true) from q
   walk-back r (one l) = step r (linked-column b ok _ _ l)
   walk-back r (more l t) = step (walk-back r t) (linked-column b ok _ _ l)
 

@@ -7,12 +7,12 @@ use Rattle.base.specs.Pick.{pick}
 use Rattle.marks.specs.Marks.{bit, hasOf, unionOf, withoutOf, oneOf, insertOf, lowestOf}
 use Rattle.board.specs.declared.Link.{Link}
 use Rattle.board.specs.declared.Board.{Board}
-use Rattle.board.specs.Board.{linkAt}
+use Rattle.board.specs.Board.{plainLink, linkAt}
 use Rattle.cone.specs.declared.Loop.the-variants.{At}
 use Rattle.cone.specs.Sweeps.{noRows, turnedOf, withLinkOf, rowsUpTo, rowsOf, visitedOf, stepOf, sweepUpTo, reachedOf, coneOf, downstreamOf, upstreamOf, onLoopOf, loopUpTo, loopOf}
 
 abbrev link : ℕ → ℕ → Link
-link p q = record { from = p; to = q }
+link p q = plainLink p q
 
 -- "K: upstream of 2 is set 7, three parts; downstream of 0 is 15, four": of any board with K's links
 module _ (b : Board) (links : b .links ≡ 3) (first : linkAt b 0 ≡ link 0 1) (second : linkAt b 1 ≡ link 0 3) (third : linkAt b 2 ≡ link 1 2) where

@@ -23,7 +23,7 @@ pub none-marked : replicate 64 0 ≡ noRows
 unfolding noRows
 none-marked = refl
 
-pub turned-back : (l : Link) (back : Bool) → back ≡ true → record { from = l .to; to = l .from } ≡ turnedOf back l
+pub turned-back : (l : Link) (back : Bool) → back ≡ true → record { from = l .to; to = l .from; delay = l .delay } ≡ turnedOf back l
 unfolding turnedOf pick
 turned-back l back e = rw e
 

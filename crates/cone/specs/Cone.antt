@@ -5,7 +5,7 @@
 use Prim.Native.Nat.{ℕ, _<_}
 use Rattle.marks.specs.Marks.{Exactly}
 use Rattle.board.specs.declared.Board.{Board}
-use Rattle.board.specs.Path.{Path, Reach, LoopFree}
+use Rattle.board.specs.Leads.{Leads, Reach, LoopFree}
 use Rattle.cone.specs.declared.Loop.{Loop}
 use Rattle.cone.specs.declared.Loop.the-variants.{At, Free}
 
@@ -18,8 +18,8 @@ Upstream b p set = Exactly (λ q. Reach b q p) set
 
 -- refusal 9's place: "lowest part on a loop"
 pub record LowestOnLoop (b : Board) (p : ℕ) : Type 0 where
-  pub on : Path b p p
-  pub lowest : (q : ℕ) → q < p → Path b q q → ⊥
+  pub on : Leads b p p
+  pub lowest : (q : ℕ) → q < p → Leads b q q → ⊥
 
 -- what is said of a board's loops: the lowest part on one, or that there is none
 abbrev pub LoopSaid : Board → Loop → Type 0

@@ -20,7 +20,7 @@ noRows = replicate 64 0
 
 -- the link, or the link back
 unfoldable pub turnedOf : Bool → Link → Link
-turnedOf back l = pick back (record { from = l .to; to = l .from }) l
+turnedOf back l = pick back (record { from = l .to; to = l .from; delay = l .delay }) l
 
 unfoldable pub withLinkOf : List ℕ → Link → List ℕ
 withLinkOf rows l = pick (ltb (l .from) 64) (set rows (l .from) (insertOf (getD rows (l .from) 0) (l .to))) rows

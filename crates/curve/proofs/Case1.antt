@@ -15,7 +15,7 @@ use Rattle.curve.specs.Answers.{powerAtOf}
 
 -- a run as 01 writes it: length at saving
 abbrev pub run : ℕ → ℕ → Run
-run length saving = record { length = record { 0 = length }; saving = record { 0 = saving } }
+run ticks saving = record { length = record { 0 = ticks }; saving = record { 0 = saving } }
 
 -- Board K's "part 0: 2; 100; 2 at 20, 1 at 5"
 unfoldable pub partZero : Curve

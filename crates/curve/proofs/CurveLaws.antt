@@ -20,7 +20,7 @@ use Rattle.curve.specs.declared.Ticks.{Ticks}
 use Rattle.curve.specs.declared.Microwatts.{Microwatts}
 use Rattle.curve.specs.declared.Run.{Run}
 use Rattle.curve.specs.declared.Curve.{Curve}
-use Rattle.curve.specs.Curve.{noRun, runAt, lengthAt, savingAt, ticksOf, slowestOf, savingOf, savingsOf, powerOf, Good}
+use Rattle.curve.specs.Curve.{powerMax, noRun, runAt, lengthAt, savingAt, ticksOf, slowestOf, savingOf, savingsOf, powerOf, Good}
 use Rattle.curve.specs.declared.Power.the-variants.{At}
 use Rattle.curve.specs.Answers.{flatOf, offCurve, powerAtOf}
 
@@ -134,7 +134,7 @@ module _ (c : Curve) (good : Good c) where
   unfolding powerOf
   power-saves d = omega (arith, saves-le c (d - c .fastest .0), good .affords)
 
-  pub power-to : (d : ℕ) → powerOf c d ≤ 2000000
+  pub power-to : (d : ℕ) → powerOf c d ≤ powerMax
   power-to d = omega (arith, power-saves d, good .power-to)
 
 -- a curve by its fields
@@ -176,7 +176,7 @@ module _ (fastest : Ticks) (power : Microwatts) where
   flat-power-at =
       power-at-on (flatOf fastest power) (fastest .0) (omega arith) (omega (arith, flat-slowest)) ∙ rw flat-power
 
-  pub flat-good : 1 ≤ fastest .0 → fastest .0 ≤ 1023 → power .0 ≤ 2000000 → Good (flatOf fastest power)
+  pub flat-good : 1 ≤ fastest .0 → fastest .0 ≤ 1023 → power .0 ≤ powerMax → Good (flatOf fastest power)
   unfolding flatOf savingsOf sum
   flat-good from to most = record {
     fastest-from = from;

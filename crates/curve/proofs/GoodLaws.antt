@@ -10,7 +10,9 @@ use lib.Dec.{ltb, eqb}
 use lib.ListN.{length}
 use borrow.Author.Tests.{not-false, ltb-true, leb-true, eqb-true, lt-ltb, le-leb, lt-leb, eq-eqb, ne-eqb}
 use Rattle.base.specs.Pick.{pick}
+use Rattle.base.specs.Decides.{Decides}
 use Rattle.base.proofs.Cases.{lt-or-le}
+use Rattle.base.proofs.Deciding.{decides-same}
 use Rattle.theory.proofs.SumLaws.{below-suc}
 use Rattle.curve.specs.declared.Run.{Run}
 use Rattle.curve.specs.declared.Curve.{Curve}
@@ -178,3 +180,10 @@ module _ (c : Curve) where
       (both-true _ _ (le-leb _ _ (good .count-to))
       (both-true _ _ (every-all (placeb c) 4 (place-good good))
       (both-true _ _ (le-leb _ _ (good .affords)) (eq-eqb _ _ (good .room)))))))
+
+-- so it decides, and what decides is it
+pub goodb-decides : (r : Bool) (c : Curve) → r ≡ goodb c → Decides r (Good c)
+goodb-decides r c is = record { yes = λ e. goodb-good c (sym is ∙ e); no = λ good. is ∙ good-goodb c good }
+
+pub decides-goodb : (r : Bool) (c : Curve) → Decides r (Good c) → r ≡ goodb c
+decides-goodb r c good = decides-same r (goodb c) (Good c) good (goodb-decides (goodb c) c refl)

@@ -28,7 +28,7 @@ use Rattle.curve.specs.declared.Slowing.{Slowing}
 use Rattle.curve.specs.declared.Power.{Power}
 use Rattle.curve.specs.declared.Power.the-variants.{At}
 use Rattle.curve.specs.declared.Last.the-variants.{Saving, Unused}
-use Rattle.curve.specs.Curve.{runAt, lengthAt, savingAt, ticksOf, slowestOf, savingOf, savingsOf, powerOf}
+use Rattle.curve.specs.Curve.{powerMax, runAt, lengthAt, savingAt, ticksOf, slowestOf, savingOf, savingsOf, powerOf}
 use Rattle.curve.specs.Answers.{nextSavingOf, lastSavingOf, offCurve, powerAtOf, usedOf}
 use Rattle.curve.specs.Tests.{both, every, blankb, rangedb, placeb, goodb}
 use Rattle.curve.proofs.CurveLaws.{ticks-held, savings-held, saving-past, power-at-below, power-at-past, power-at-on}
@@ -246,14 +246,14 @@ places-hold c k l h is = finished (λ n. every n (placeb c)) l h (sym is)
 
 -- ---- is_good
 module _ (c : Curve) (t : Bool) (few : c .count ≤ 4) (is : t ≡ every 4 (placeb c)) where
-  module _ (from : 1 ≤ c .fastest .0) (to : c .fastest .0 ≤ 1023) (most : c .power .0 ≤ 2000000) where
+  module _ (from : 1 ≤ c .fastest .0) (to : c .fastest .0 ≤ 1023) (most : c .power .0 ≤ powerMax) where
     pub bad-place : not t ≡ true → false ≡ goodb c
     unfolding goodb pick
     bad-place fails =
-        rw (le-leb 1 (c .fastest .0) from, le-leb (c .fastest .0) 1023 to, le-leb (c .power .0) 2000000 most, le-leb (c .count) 4 few, ← is, not-true t fails)
+        rw (le-leb 1 (c .fastest .0) from, le-leb (c .fastest .0) 1023 to, le-leb (c .power .0) powerMax most, le-leb (c .count) 4 few, ← is, not-true t fails)
 
     pub good-places : (r : Bool) → not t ≡ false → r ≡ leb (savingsOf c) (c .power .0) → length (c .runs) ≡ 4 → r ≡ goodb c
     unfolding goodb pick
     good-places r passes paid-is room =
-        rw (le-leb 1 (c .fastest .0) from, le-leb (c .fastest .0) 1023 to, le-leb (c .power .0) 2000000 most, le-leb (c .count) 4 few, ← is, not-false t passes, ← paid-is, eq-eqb (length (c .runs)) 4 room)
+        rw (le-leb 1 (c .fastest .0) from, le-leb (c .fastest .0) 1023 to, le-leb (c .power .0) powerMax most, le-leb (c .count) 4 few, ← is, not-false t passes, ← paid-is, eq-eqb (length (c .runs)) 4 room)
         (both-same r)

@@ -4,7 +4,7 @@ use Prim.Native.Nat.{ℕ, _*_, _-_, min}
 use lib.Dec.{ltb, leb}
 use lib.ListN.{replicate}
 use Rattle.base.specs.Pick.{pick}
-use Rattle.refusal.specs.declared.Why.the-variants.{OffCurve}
+use Rattle.refusal.specs.Refusal.{by}
 use Rattle.curve.specs.declared.Ticks.{Ticks}
 use Rattle.curve.specs.declared.Microwatts.{Microwatts}
 use Rattle.curve.specs.declared.Run.{Run}
@@ -30,7 +30,7 @@ lastSavingOf c d = pick (leb d (c .fastest .0)) Unused (Saving (record { 0 = nex
 
 -- refusal 19: "delay outside the part's curve", place: "the delay"
 abbrev pub offCurve : ℕ → Power
-offCurve d = Refused OffCurve d
+offCurve d = Refused (by 19) d
 
 -- "Power of a part at a delay": its power there, from the fastest to the slowest
 unfoldable pub powerAtOf : Curve → ℕ → Power

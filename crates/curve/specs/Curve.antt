@@ -1,4 +1,4 @@
--- 01, The board: "A part's curve: fastest delay 1 to 1,023 ticks; power at the fastest 0 to 2,000,000 microwatts; 0 to 4 runs."
+-- 01, The board: "A part's curve: fastest delay 1 to 1,023 ticks; power at the fastest ..; 0 to 4 runs."
 -- Assumes nothing.
 use mathlib.Core.Path.{_≡_}
 use mathlib.Core.List.{List}
@@ -10,6 +10,10 @@ use Rattle.curve.specs.declared.Ticks.{Ticks}
 use Rattle.curve.specs.declared.Microwatts.{Microwatts}
 use Rattle.curve.specs.declared.Run.{Run}
 use Rattle.curve.specs.declared.Curve.{Curve}
+
+-- 02, Req 02: "Power at the fastest may be up to 20,000,000"
+abbrev pub powerMax : ℕ
+powerMax = 20000000
 
 -- a place that holds no run
 abbrev pub noRun : Run
@@ -49,7 +53,7 @@ powerOf c d = c .power .0 - saves (savingOf c) (d - c .fastest .0)
 pub record Good (c : Curve) : Type 0 where
   pub fastest-from : 1 ≤ c .fastest .0
   pub fastest-to : c .fastest .0 ≤ 1023
-  pub power-to : c .power .0 ≤ 2000000
+  pub power-to : c .power .0 ≤ powerMax
   pub count-to : c .count ≤ 4
   pub length-from : (i : ℕ) → i < c .count → 1 ≤ lengthAt c i
   pub length-to : (i : ℕ) → i < c .count → lengthAt c i ≤ 255

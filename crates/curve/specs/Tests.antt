@@ -7,7 +7,7 @@ use lib.ListN.{length}
 use Rattle.base.specs.Pick.{pick}
 use Rattle.curve.specs.declared.Run.{Run}
 use Rattle.curve.specs.declared.Curve.{Curve}
-use Rattle.curve.specs.Curve.{runAt, lengthAt, savingAt, savingsOf}
+use Rattle.curve.specs.Curve.{powerMax, runAt, lengthAt, savingAt, savingsOf}
 
 abbrev pub both : Bool → Bool → Bool
 both a b = pick a b false
@@ -37,7 +37,7 @@ unfoldable pub goodb : Curve → Bool
 goodb c =
     both (leb 1 (c .fastest .0))
     (both (leb (c .fastest .0) 1023)
-    (both (leb (c .power .0) 2000000)
+    (both (leb (c .power .0) powerMax)
     (both (leb (c .count) 4)
     (both (every 4 (placeb c))
     (both (leb (savingsOf c) (c .power .0))

@@ -5,9 +5,10 @@ use refusal::Why;
 ghost use mathlib.Core.Path.{_≡_};
 ghost use Prim.Native.Nat.{_+_, _*_, _-_, _<_, min};
 ghost use lib.Dec.{leb};
-ghost use Rattle.curve.specs.Curve.{slowestOf, savingsOf};
+ghost use Rattle.base.specs.Decides.{Decides};
+ghost use Rattle.curve.specs.Curve.{slowestOf, savingsOf, Good};
 ghost use Rattle.curve.specs.Answers.{flatOf, nextSavingOf, lastSavingOf, offCurve, powerAtOf, usedOf};
-ghost use Rattle.curve.specs.Tests.{every, blankb, rangedb, placeb, goodb};
+ghost use Rattle.curve.specs.Tests.{every, blankb, rangedb, placeb};
 
 // A count of ticks.
 pub struct Ticks(pub u32);
@@ -151,7 +152,7 @@ impl Curve {
 
     pub const FASTEST_MAX: u32 = 1023;
 
-    pub const POWER_MAX: u32 = 2000000;
+    pub const POWER_MAX: u32 = 20000000;
 
     pub const RUNS_MAX: usize = 4;
 
@@ -304,7 +305,7 @@ impl Curve {
 
     // Whether this is a curve as 01 asks it to be.
     pub fn is_good(self) -> bool
-        ensures { λ r. ⌜ r ≡ goodb self ⌝ }
+        ensures { λ r. ⌜ Decides r (Good self) ⌝ }
     {
         if self.fastest.0 < Self::FASTEST_MIN {
             return false;

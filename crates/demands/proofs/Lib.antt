@@ -2,6 +2,8 @@ pub mod Tried
 pub mod Once
 pub mod Steps
 pub mod LoadLaws
+pub mod SlowLaws
+pub mod FileLaws
 pub mod ReachedLaws
 pub mod Commute
 pub mod Tighten

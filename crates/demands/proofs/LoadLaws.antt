@@ -7,6 +7,7 @@ use lib.ListN.{length}
 use Rattle.refusal.specs.declared.Why.{Why}
 use Rattle.refusal.specs.declared.Answer.{Answer}
 use Rattle.refusal.specs.declared.Answer.the-variants.{Done, Refused}
+use Rattle.board.specs.declared.Rule.the-variants.{A}
 use Rattle.board.specs.declared.Board.{Board}
 use Rattle.board.specs.Board.{WellFormed}
 use Rattle.fields.specs.Parse.{Parse, got, stop}
@@ -15,10 +16,8 @@ use Rattle.design.proofs.DesignLaws.{written-read}
 use Rattle.desk.specs.declared.Tally.{Tally}
 use Rattle.desk.specs.declared.Desk.{Desk}
 use Rattle.desk.specs.declared.Loaded.{Loaded}
-use Rattle.solver.specs.Verdict.{Verdict}
 use Rattle.desk.specs.Held.{Holding}
-use Rattle.desk.specs.Load.{noTally, LoadJudged, LoadParsed, LoadSaid}
-use Rattle.desk.specs.Load as load
+use Rattle.desk.specs.Load.{noTally, tallyLoaded, LoadJudged, LoadParsed, LoadSaid}
 use Rattle.solver.proofs.VerdictLaws.{verdict-done}
 use Rattle.desk.proofs.Tried.{never}
 use Rattle.demands.specs.Boards.{Plannable}
@@ -27,12 +26,15 @@ use Rattle.demands.proofs.Steps.{kept-plannable}
 
 module _ (d : Desk) (t : Tally) (r : Loaded) where
   judged-accepted : (b : Board) → r .answer ≡ Done → LoadJudged b d t r → Accepted b r
-  judged-accepted b done (load.refused v is) = never (sym (ap (λ (x : Loaded). x .answer) is) ∙ done)
-  judged-accepted b done (load.accepted v a p bo h ta) = record { done = a; board = bo; holding = h; tally = ta }
+  judged-accepted b done j = record {
+    done = done;
+    board = j .judged .board done;
+    holding = j .judged .holding done;
+    tally = j .tally ∙ ap (λ (a : Answer). tallyLoaded a t) done;
+  }
 
   judged-done : (b : Board) → Plannable b → LoadJudged b d t r → r .answer ≡ Done
-  judged-done b ok (load.refused v is) = never (verdict-done b (ok .formed) (ok .free) (ok .budget) v)
-  judged-done b ok (load.accepted v a p bo h ta) = a
+  judged-done b ok j = verdict-done b (ok .formed) (ok .free) (ok .budget) (j .judged .verdict)
 
   -- where no refusal applies, the load is accepted;
   pub load-accepts : (s : List ℕ) (b : Board) → Describes s b → Plannable b → LoadSaid d s t r → Accepted b r
@@ -41,7 +43,7 @@ module _ (d : Desk) (t : Tally) (r : Loaded) where
       judged-accepted b (judged-done b ok j) j
 
   -- where it is accepted, none applied, and the board is the file's
-  parsed-came : (s : List ℕ) (p : Parse Board) → designOf s ≡ p → LoadParsed p d t r → r .answer ≡ Done → Came s r
+  parsed-came : (s : List ℕ) (p : Parse Board) → designOf A s ≡ p → LoadParsed p d t r → r .answer ≡ Done → Came s r
   parsed-came s (stop why place) e is done = never (sym (ap (λ (x : Loaded). x .answer) is) ∙ done)
   parsed-came s (got b next) e j done =
       let so = judged-accepted b done j in
@@ -53,7 +55,7 @@ module _ (d : Desk) (t : Tally) (r : Loaded) where
       }
 
   pub load-accepted : (s : List ℕ) → LoadSaid d s t r → r .answer ≡ Done → Came s r
-  load-accepted s said done = parsed-came s (designOf s) refl (said .parsed) done
+  load-accepted s said done = parsed-came s (designOf A s) refl (said .parsed) done
 
   -- every board without a loop that has any budget at all is loaded from the file that is written of it
   pub written-loads : (b : Board) → Plannable b → LoadSaid d (fileOf b) t r → Accepted b r

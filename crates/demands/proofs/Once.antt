@@ -8,6 +8,7 @@ use native.Mathlib.Omega.{arith}
 use Rattle.refusal.specs.declared.Why.{Why}
 use Rattle.refusal.specs.declared.Answer.{Answer}
 use Rattle.refusal.specs.declared.Answer.the-variants.{Done, Refused}
+use Rattle.board.specs.declared.Rule.the-variants.{A}
 use Rattle.board.specs.declared.Board.{Board}
 use Rattle.board.specs.Board.{WellFormed}
 use Rattle.slow.specs.declared.Trail.{Trail}
@@ -25,14 +26,12 @@ use Rattle.desk.specs.declared.Tally.{Tally}
 use Rattle.desk.specs.declared.Desk.{Desk}
 use Rattle.desk.specs.declared.Loaded.{Loaded}
 use Rattle.desk.specs.declared.Ordered.{Ordered}
-use Rattle.solver.specs.Verdict.{Verdict}
 use Rattle.desk.specs.Held.{Holding, Standing, empty, holding}
-use Rattle.desk.specs.Load.{loadRefused, LoadJudged, LoadParsed, LoadSaid}
-use Rattle.desk.specs.Order.{changedOf, triedOf, refusedTally, orderRefused, OrderJudged, OrderTried, OrderParsed, OrderSaid}
-use Rattle.desk.specs.Load as load
-use Rattle.desk.specs.Order as order
+use Rattle.desk.specs.Judged.{BoardJudged}
+use Rattle.desk.specs.Load.{loadRefused, tallyLoaded, LoadJudged, LoadParsed, LoadSaid}
+use Rattle.desk.specs.Order.{changedOf, triedOf, refusedTally, tallyOrdered, orderRefused, OrderJudged, OrderTried, OrderParsed, OrderSaid}
 use Rattle.demands.specs.Same.{SameDesk, SameLoaded, SameOrdered}
-use Rattle.solver.proofs.VerdictLaws.{SameVerdict, verdict-once}
+use Rattle.solver.proofs.VerdictLaws.{verdict-once}
 use Rattle.desk.proofs.Tried.{never, Passed, tried-passed, tried-fits, changed-well}
 
 -- ---- desks with one board
@@ -48,6 +47,17 @@ one-board d d′ h h′ e =
       budget = holds-once (d .board) (h .kept .formed) (d .budget) (d′ .budget) (h .kept .holds) other;
     }
 
+-- ---- what a board comes to
+module _ (b : Board) (d : Desk) {a a′ : Answer} {p p′ : Trail} {e e′ : Desk} (j : BoardJudged b d a p e) (j′ : BoardJudged b d a′ p′ e′) where
+  desk-once : (answer : Answer) → a ≡ answer → a′ ≡ answer → SameDesk e e′
+  desk-once Done h h′ = one-board e e′ (j .holding h) (j′ .holding h′) (j .board h ∙ sym (j′ .board h′))
+  desk-once (Refused why place) h h′ = same-desk e e′ (j .stays why place h ∙ sym (j′ .stays why place h′))
+
+  judged-once : WellFormed b → (a ≡ a′) × (p ≡ p′) × SameDesk e e′
+  judged-once w =
+      let one = verdict-once b w (j .verdict) (j′ .verdict) in
+      (one .answer, j .listed ∙ ap trailOf (one .listed) ∙ sym (j′ .listed), desk-once a′ (one .answer) refl)
+
 -- ---- loads
 same-loaded : (r r′ : Loaded) → r ≡ r′ → SameLoaded r r′
 same-loaded r r′ e = record {
@@ -59,17 +69,14 @@ same-loaded r r′ e = record {
 
 module _ (d : Desk) (t : Tally) where
   load-judged-once : (b : Board) → WellFormed b → (r r′ : Loaded) → LoadJudged b d t r → LoadJudged b d t r′ → SameLoaded r r′
-  load-judged-once b w r r′ (load.refused v is) (load.refused v′ is′) =
-      let one = verdict-once b w v v′ in
-      same-loaded r r′ (is ∙ rw (one .answer, one .listed) (sym is′))
-  load-judged-once b w r r′ (load.refused v is) (load.accepted v′ a′ p′ b′ h′ t′) = never (verdict-once b w v v′ .answer)
-  load-judged-once b w r r′ (load.accepted v a p bo h ta) (load.refused v′ is′) = never (verdict-once b w v′ v .answer)
-  load-judged-once b w r r′ (load.accepted v a p bo h ta) (load.accepted v′ a′ p′ bo′ h′ ta′) = record {
-    answer = a ∙ sym a′;
-    path = p ∙ sym p′;
-    desk = one-board (r .desk) (r′ .desk) h h′ (bo ∙ sym bo′);
-    tally = ta ∙ sym ta′;
-  }
+  load-judged-once b w r r′ j j′ =
+      let one = judged-once b d (j .judged) (j′ .judged) w in
+      record {
+        answer = one .0;
+        path = one .1;
+        desk = one .2;
+        tally = j .tally ∙ ap (λ (a : Answer). tallyLoaded a t) (one .0) ∙ sym (j′ .tally);
+      }
 
   load-parsed-once :
       (p : Parse Board) → ((b : Board) (next : ℕ) → p ≡ got b next → WellFormed b) → (r r′ : Loaded) → LoadParsed p d t r →
@@ -78,12 +85,11 @@ module _ (d : Desk) (t : Tally) where
   load-parsed-once (got b next) well r r′ j j′ = load-judged-once b (well b next refl) r r′ j j′
 
   pub load-once : (s : List ℕ) (r r′ : Loaded) → LoadSaid d s t r → LoadSaid d s t r′ → SameLoaded r r′
-  load-once s r r′ said said′ = load-parsed-once (designOf s) (design-well-formed s) r r′ (said .parsed) (said′ .parsed)
+  load-once s r r′ said said′ = load-parsed-once (designOf A s) (design-well-formed A s) r r′ (said .parsed) (said′ .parsed)
 
   -- a refused load changes nothing
   load-judged-kept : (b : Board) (r : Loaded) {why : Why} {place : ℕ} → LoadJudged b d t r → r .answer ≡ Refused why place → (r .desk ≡ d) × (r .tally ≡ t)
-  load-judged-kept b r (load.refused v is) e = (ap (λ (x : Loaded). x .desk) is, ap (λ (x : Loaded). x .tally) is)
-  load-judged-kept b r (load.accepted v a p bo h ta) e = never (sym e ∙ a)
+  load-judged-kept b r {why} {place} j e = (j .judged .stays why place e, j .tally ∙ ap (λ (a : Answer). tallyLoaded a t) e)
 
   load-parsed-kept :
       (p : Parse Board) (r : Loaded) {why : Why} {place : ℕ} → LoadParsed p d t r → r .answer ≡ Refused why place → (r .desk ≡ d) × (r .tally ≡ t)
@@ -92,7 +98,7 @@ module _ (d : Desk) (t : Tally) where
 
   pub load-refused-stays :
       (s : List ℕ) (r : Loaded) {why : Why} {place : ℕ} → LoadSaid d s t r → r .answer ≡ Refused why place → (r .desk ≡ d) × (r .tally ≡ t)
-  load-refused-stays s r said e = load-parsed-kept (designOf s) r (said .parsed) e
+  load-refused-stays s r said e = load-parsed-kept (designOf A s) r (said .parsed) e
 
 -- ---- orders
 same-ordered : (r r′ : Ordered) → r ≡ r′ → SameOrdered r r′
@@ -104,43 +110,33 @@ same-ordered r r′ e = record {
   tally = ap (λ (x : Ordered). x .tally) e;
 }
 
-refused-same :
-    (d : Desk) (t : Tally) (took : ℕ) {why why′ : Why} {place place′ : ℕ} {path path′ : List ℕ} → Refused why place ≡ Refused why′ place′ → path ≡ path′ →
-    orderRefused why place took path d t ≡ orderRefused why′ place′ took path′ d t
-refused-same d t took {why} {why′} e listed =
-    let reason : why ≡ why′ = cc in
-    rw (e, listed, reason)
-
 pub standing-holding : {d : Desk} → Standing d → d .held ≡ true → Holding d
 standing-holding (empty e) h = absurd (let z : _≡_ {A = ℕ} 0 1 = cc in omega arith)
 standing-holding (holding h) e = h
 
 module _ (d : Desk) (t : Tally) where
   order-judged-once : (b : Board) → WellFormed b → (took : ℕ) (r r′ : Ordered) → OrderJudged b d t took r → OrderJudged b d t took r′ → SameOrdered r r′
-  order-judged-once b w took r r′ (order.refused v is) (order.refused v′ is′) =
-      let one = verdict-once b w v v′ in
-      same-ordered r r′ (is ∙ refused-same d t took (one .answer) (one .listed) ∙ sym is′)
-  order-judged-once b w took r r′ (order.refused v is) (order.made v′ a′ k′ p′ b′ h′ t′) = never (verdict-once b w v v′ .answer)
-  order-judged-once b w took r r′ (order.made v a k p bo h ta) (order.refused v′ is′) = never (verdict-once b w v′ v .answer)
-  order-judged-once b w took r r′ (order.made v a k p bo h ta) (order.made v′ a′ k′ p′ bo′ h′ ta′) = record {
-    answer = a ∙ sym a′;
-    took = k ∙ sym k′;
-    path = p ∙ sym p′;
-    desk = one-board (r .desk) (r′ .desk) h h′ (bo ∙ sym bo′);
-    tally = ta ∙ sym ta′;
-  }
+  order-judged-once b w took r r′ j j′ =
+      let one = judged-once b d (j .judged) (j′ .judged) w in
+      record {
+        answer = one .0;
+        took = j .took-is ∙ sym (j′ .took-is);
+        path = one .1;
+        desk = one .2;
+        tally = j .tally ∙ ap (λ (a : Answer). tallyOrdered a t) (one .0) ∙ sym (j′ .tally);
+      }
+
+  -- the board as it would be is well formed where it is judged
+  pub judged-well : Standing d → (o : Order) → Orderly o → triedOf d t o ≡ Done → WellFormed (changedOf (d .board) o)
+  judged-well so o orderly e =
+      let p = tried-passed d t o e in
+      let w = standing-holding so (p .held) .kept .formed in
+      changed-well (d .board) w o (tried-fits (d .board) w (o .change) (p .place)) orderly
 
   module _ (so : Standing d) (o : Order) (orderly : Orderly o) (took : ℕ) (r r′ : Ordered) where
-    -- the board as it would be is well formed where it is judged
-    pub judged-well : triedOf d t o ≡ Done → WellFormed (changedOf (d .board) o)
-    judged-well e =
-        let p = tried-passed d t o e in
-        let w = standing-holding so (p .held) .kept .formed in
-        changed-well (d .board) w o (tried-fits (d .board) w (o .change) (p .place)) orderly
-
     order-tried-once : (a : Answer) → triedOf d t o ≡ a → OrderTried a d t o took r → OrderTried a d t o took r′ → SameOrdered r r′
     order-tried-once (Refused why place) e is is′ = same-ordered r r′ (is ∙ sym is′)
-    order-tried-once Done e j j′ = order-judged-once (changedOf (d .board) o) (judged-well e) took r r′ j j′
+    order-tried-once Done e j j′ = order-judged-once (changedOf (d .board) o) (judged-well so o orderly e) took r r′ j j′
 
   order-parsed-once :
       Standing d → (p : Parse Order) → ((o : Order) (took : ℕ) → p ≡ got o took → Orderly o) → (r r′ : Ordered) → OrderParsed p d t r →
@@ -151,19 +147,28 @@ module _ (d : Desk) (t : Tally) where
   pub order-once : Standing d → (s : List ℕ) (r r′ : Ordered) → OrderSaid d s t r → OrderSaid d s t r′ → SameOrdered r r′
   order-once so s r r′ said said′ = order-parsed-once so (orderOf s) (order-orderly s) r r′ (said .parsed) (said′ .parsed)
 
-  -- a refused order changes the tally at most
-  order-judged-kept : (b : Board) (took : ℕ) (r : Ordered) {why : Why} {place : ℕ} → OrderJudged b d t took r → r .answer ≡ Refused why place → r .desk ≡ d
-  order-judged-kept b took r (order.refused v is) e = ap (λ (x : Ordered). x .desk) is
-  order-judged-kept b took r (order.made v a k p bo h ta) e = never (sym e ∙ a)
+  -- a refused order changes the tally at most, and that as it is counted
+  refused-kept :
+      (r : Ordered) (took : ℕ) {w why : Why} {q place : ℕ} {path : List ℕ} → r ≡ orderRefused w q took path d t → r .answer ≡ Refused why place →
+      (r .desk ≡ d) × (r .tally ≡ refusedTally why t)
+  refused-kept r took {w = w} {why = why} {q = q} {place = place} is e =
+      let told : Refused w q ≡ Refused why place = sym (ap (λ (x : Ordered). x .answer) is) ∙ e in
+      let same : w ≡ why = cc in
+      (ap (λ (x : Ordered). x .desk) is, ap (λ (x : Ordered). x .tally) is ∙ ap (λ (v : Why). refusedTally v t) same)
 
   order-tried-kept :
-      (a : Answer) (o : Order) (took : ℕ) (r : Ordered) {why : Why} {place : ℕ} → OrderTried a d t o took r → r .answer ≡ Refused why place → r .desk ≡ d
-  order-tried-kept (Refused why place) o took r is e = ap (λ (x : Ordered). x .desk) is
-  order-tried-kept Done o took r j e = order-judged-kept (changedOf (d .board) o) took r j e
+      (a : Answer) (o : Order) (took : ℕ) (r : Ordered) {why : Why} {place : ℕ} → OrderTried a d t o took r → r .answer ≡ Refused why place →
+      (r .desk ≡ d) × (r .tally ≡ refusedTally why t)
+  order-tried-kept (Refused w q) o took r is e = refused-kept r took is e
+  order-tried-kept Done o took r {why} {place} j e = (j .judged .stays why place e, j .tally ∙ ap (λ (a : Answer). tallyOrdered a t) e)
 
-  order-parsed-kept : (p : Parse Order) (r : Ordered) {why : Why} {place : ℕ} → OrderParsed p d t r → r .answer ≡ Refused why place → r .desk ≡ d
-  order-parsed-kept (stop why place) r is e = ap (λ (x : Ordered). x .desk) is
+  order-parsed-kept :
+      (p : Parse Order) (r : Ordered) {why : Why} {place : ℕ} → OrderParsed p d t r → r .answer ≡ Refused why place →
+      (r .desk ≡ d) × (r .tally ≡ refusedTally why t)
+  order-parsed-kept (stop w q) r is e = refused-kept r 0 is e
   order-parsed-kept (got o took) r j e = order-tried-kept (triedOf d t o) o took r j e
 
-  pub order-refused-stays : (s : List ℕ) (r : Ordered) {why : Why} {place : ℕ} → OrderSaid d s t r → r .answer ≡ Refused why place → r .desk ≡ d
+  pub order-refused-stays :
+      (s : List ℕ) (r : Ordered) {why : Why} {place : ℕ} → OrderSaid d s t r → r .answer ≡ Refused why place →
+      (r .desk ≡ d) × (r .tally ≡ refusedTally why t)
   order-refused-stays s r said e = order-parsed-kept (orderOf s) r (said .parsed) e

@@ -9,7 +9,9 @@ use Rattle.base.specs.Pick.{pick}
 use Rattle.refusal.specs.declared.Why.{Why}
 use Rattle.refusal.specs.declared.Answer.{Answer}
 use Rattle.refusal.specs.declared.Answer.the-variants.{Done, Refused}
+use Rattle.board.specs.declared.Rule.the-variants.{A}
 use Rattle.board.specs.declared.Board.{Board}
+use Rattle.slow.specs.declared.Trail.{Trail}
 use Rattle.budget.specs.Budget.{Holds}
 use Rattle.fields.specs.Parse.{Parse, got, stop}
 use Rattle.design.specs.Design.{designOf}
@@ -20,11 +22,10 @@ use Rattle.desk.specs.declared.Desk.{Desk}
 use Rattle.desk.specs.declared.Loaded.{Loaded}
 use Rattle.desk.specs.declared.Ordered.{Ordered}
 use Rattle.desk.specs.Held.{Holding, Standing, empty, holding}
+use Rattle.desk.specs.Judged.{BoardJudged}
 use Rattle.desk.specs.Load.{noTally, LoadJudged, LoadParsed, LoadSaid}
-use Rattle.desk.specs.Order.{changedOf, triedOf, counts, oneTaken, refusedTally, orderRefused, OrderJudged, OrderTried, OrderParsed, OrderSaid}
-use Rattle.desk.specs.Load as load
-use Rattle.desk.specs.Order as order
-use Rattle.demands.specs.Reached.{Reached, loaded, ordered, takenBy, refusedBy, takenIn, refusedIn}
+use Rattle.desk.specs.Order.{changedOf, triedOf, counts, oneTaken, refusedTally, tallyOrdered, orderRefused, OrderJudged, OrderTried, OrderParsed, OrderSaid}
+use Rattle.demands.specs.Reached.{Reached, loaded, ordered, Counting, since, after, takenBy, refusedBy, takenIn, refusedIn, Tallied}
 use Rattle.demands.proofs.LoadLaws.{load-accepted}
 
 -- ---- an order: what it leaves, and what it counts
@@ -42,6 +43,27 @@ pub record Leaves (t : Tally) (r : Ordered) : Type 0 where
   pub holding : Holding (r .desk)
   pub counted : Counted t (r .tally) (r .answer)
 
+ordered-counts : (a : Answer) (t : Tally) → Counted t (tallyOrdered a t) a
+unfolding refusedTally
+ordered-counts Done t = record { taken = refl; refused = omega arith }
+ordered-counts (Refused why place) t = record { taken = refused-counts (counts why) t .0; refused = refused-counts (counts why) t .1 }
+
+-- what a board was judged by leaves a desk as it should be, or holds the board
+module _ {b : Board} {d : Desk} {p : Trail} {e : Desk} where
+  answer-holding : {a : Answer} (given : Answer) → a ≡ given → BoardJudged b d a p e → Holding d → Holding e
+  answer-holding Done is j h = j .holding is
+  answer-holding (Refused why place) is j h = rw (j .stays why place is) h
+
+  judged-holding : {a : Answer} → BoardJudged b d a p e → Holding d → Holding e
+  judged-holding {a} j h = answer-holding a refl j h
+
+  answer-standing : {a : Answer} (given : Answer) → a ≡ given → BoardJudged b d a p e → Standing d → Standing e
+  answer-standing Done is j so = holding (j .holding is)
+  answer-standing (Refused why place) is j so = rw (j .stays why place is) so
+
+  judged-standing : {a : Answer} → BoardJudged b d a p e → Standing d → Standing e
+  judged-standing {a} j so = answer-standing a refl j so
+
 module _ (d : Desk) (h : Holding d) (t : Tally) (r : Ordered) where
   refused-leaves : (why : Why) (place took : ℕ) (path : List ℕ) → r ≡ orderRefused why place took path d t → Leaves t r
   unfolding refusedTally
@@ -49,8 +71,7 @@ module _ (d : Desk) (h : Holding d) (t : Tally) (r : Ordered) where
       rw is (record { holding = h; counted = record { taken = refused-counts (counts why) t .0; refused = refused-counts (counts why) t .1 } })
 
   judged-leaves : (b : Board) (took : ℕ) → OrderJudged b d t took r → Leaves t r
-  judged-leaves b took (order.refused {why = why} {place = place} {path = path} v is) = refused-leaves why place took path is
-  judged-leaves b took (order.made v a k p bo holds ta) = record { holding = holds; counted = rw (a, ta) (record { taken = refl; refused = omega arith }) }
+  judged-leaves b took j = record { holding = judged-holding (j .judged) h; counted = rw (j .tally) (ordered-counts (r .answer) t) }
 
   tried-leaves : (a : Answer) (o : Order) (took : ℕ) → OrderTried a d t o took r → Leaves t r
   tried-leaves (Refused why place) o took is = refused-leaves why place took [] is
@@ -63,19 +84,19 @@ module _ (d : Desk) (h : Holding d) (t : Tally) (r : Ordered) where
   pub order-leaves : (s : List ℕ) → OrderSaid d s t r → Leaves t r
   order-leaves s said = parsed-leaves (orderOf s) (said .parsed)
 
--- ---- any list of orders
-pub reached-holding : {d : Desk} {t : Tally} {answers : List Answer} → Reached d t answers → Holding d
+-- ---- any list of orders, whoever writes to the tally
+pub reached-holding : {d : Desk} → Reached d → Holding d
 reached-holding (loaded {d = d} {s = s} {t = t} {r = r} said done) = load-accepted d t r s said done .so .holding
-reached-holding (ordered {d = d} {t = t} {s = s} {r = r} before said) = order-leaves d (reached-holding before) t r s said .holding
+reached-holding (ordered {d = d} {s = s} {t = t} {r = r} before said) = order-leaves d (reached-holding before) t r s said .holding
 
 -- "After any list of orders the held budget is the one that demand 2 gives the board as it then stands."
-pub reached-budget : {d : Desk} {t : Tally} {answers : List Answer} → Reached d t answers → Holds (d .board) (d .budget)
+pub reached-budget : {d : Desk} → Reached d → Holds (d .board) (d .budget)
 reached-budget so = reached-holding so .kept .holds
 
--- "the sum is the number of counted orders since the load"
-pub record Tallied (t : Tally) (answers : List Answer) : Type 0 where
-  pub taken : t .taken ≡ takenIn answers
-  pub refused : t .refused ≡ refusedIn answers
+-- ---- where nobody else writes to it
+pub counting-reached : {d : Desk} {t : Tally} {answers : List Answer} → Counting d t answers → Reached d
+counting-reached (since said done) = loaded said done
+counting-reached (after before said) = ordered (counting-reached before) said
 
 one-more : (t t′ : Tally) (a : Answer) (answers : List Answer) → Tallied t answers → Counted t t′ a → Tallied t′ (a ∷ answers)
 unfolding takenIn refusedIn
@@ -85,10 +106,12 @@ none-yet : (t : Tally) → t ≡ noTally → Tallied t []
 unfolding takenIn refusedIn
 none-yet t is = rw is (record { taken = refl; refused = refl })
 
-pub reached-tally : {d : Desk} {t : Tally} {answers : List Answer} → Reached d t answers → Tallied t answers
-reached-tally (loaded {d = d} {s = s} {t = t} {r = r} said done) = none-yet (r .tally) (load-accepted d t r s said done .so .tally)
-reached-tally (ordered {d = d} {t = t} {answers = answers} {s = s} {r = r} before said) =
-    one-more t (r .tally) (r .answer) answers (reached-tally before) (order-leaves d (reached-holding before) t r s said .counted)
+-- "the sum is the number of counted orders since the load"
+pub counting-tally : {d : Desk} {t : Tally} {answers : List Answer} → Counting d t answers → Tallied t answers
+counting-tally (since {d = d} {s = s} {t = t} {r = r} said done) = none-yet (r .tally) (load-accepted d t r s said done .so .tally)
+counting-tally (after {d = d} {t = t} {answers = answers} {s = s} {r = r} before said) =
+    one-more t (r .tally) (r .answer) answers (counting-tally before)
+    (order-leaves d (reached-holding (counting-reached before)) t r s said .counted)
 
 -- ---- a desk that holds nothing, or what it should, stays so
 module _ (d : Desk) (t : Tally) (so : Standing d) where
@@ -96,26 +119,18 @@ module _ (d : Desk) (t : Tally) (so : Standing d) where
   kept-standing e = rw e so
 
   pub load-standing : (s : List ℕ) (r : Loaded) → LoadSaid d s t r → Standing (r .desk)
-  load-standing s r said = parsed (designOf s) (said .parsed)
+  load-standing s r said = parsed (designOf A s) (said .parsed)
     where
-      judged : (b : Board) → LoadJudged b d t r → Standing (r .desk)
-      judged b (load.refused v is) = kept-standing (ap (λ (x : Loaded). x .desk) is)
-      judged b (load.accepted v a p bo h ta) = holding h
-
       parsed : (p : Parse Board) → LoadParsed p d t r → Standing (r .desk)
       parsed (stop why place) is = kept-standing (ap (λ (x : Loaded). x .desk) is)
-      parsed (got b next) j = judged b j
+      parsed (got b next) j = judged-standing (j .judged) so
 
   pub order-standing : (s : List ℕ) (r : Ordered) → OrderSaid d s t r → Standing (r .desk)
   order-standing s r said = parsed (orderOf s) (said .parsed)
     where
-      judged : (b : Board) (took : ℕ) → OrderJudged b d t took r → Standing (r .desk)
-      judged b took (order.refused v is) = kept-standing (ap (λ (x : Ordered). x .desk) is)
-      judged b took (order.made v a k p bo h ta) = holding h
-
       tried : (a : Answer) (o : Order) (took : ℕ) → OrderTried a d t o took r → Standing (r .desk)
       tried (Refused why place) o took is = kept-standing (ap (λ (x : Ordered). x .desk) is)
-      tried Done o took j = judged (changedOf (d .board) o) took j
+      tried Done o took j = judged-standing (j .judged) so
 
       parsed : (p : Parse Order) → OrderParsed p d t r → Standing (r .desk)
       parsed (stop why place) is = kept-standing (ap (λ (x : Ordered). x .desk) is)

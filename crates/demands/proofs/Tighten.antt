@@ -16,10 +16,12 @@ use Rattle.theory.proofs.Tightening.{Tighter, tighter-possible}
 use Rattle.curve.specs.declared.Curve.{Curve}
 use Rattle.board.specs.declared.Link.{Link}
 use Rattle.board.specs.declared.Board.{Board}
-use Rattle.board.specs.Board.{noCurve, noLink, curveAt, linkAt, usable, view, Linked, WellFormed}
-use Rattle.board.specs.Path.{Path, one, more, LoopFree}
+use Rattle.board.specs.Board.{plainLink, noLink, curveAt, linkAt, delayOf, usable, view, Linked, Has, WellFormed}
+use Rattle.board.proofs.UsableLaws.{usable-lower}
+use Rattle.board.proofs.SameBoard.{linked-whole}
+use Rattle.board.specs.Leads.{Leads, one, more, LoopFree}
 use Rattle.board.proofs.Lawful.{lawful}
-use Rattle.edits.specs.Changes.{Ends, Addable, LinksOnly, LinkAdded, LinkRemoved, CurveChanged, DeadlineChanged}
+use Rattle.edits.specs.Changes.{Addable, LinksOnly, LinkAdded, LinkRemoved, CurveChanged, DeadlineChanged}
 use Rattle.orders.specs.declared.Change.{Change}
 use Rattle.orders.specs.declared.Change.the-variants.{Deadline, AddLink, RemoveLink, NewCurve}
 use Rattle.orders.specs.declared.Order.{Order}
@@ -39,41 +41,61 @@ use Rattle.demands.proofs.Steps.{kept-plannable, Stepped, makes-stepped
 use Rattle.demands.proofs.Commute.{boards-commute, fits-next, board-next, steps-commute}
 
 -- ---- a board that is tighter than another
+-- it has a link with the ends of x that takes no less
+record Longer (b : Board) (x : Link) : Type 0 where
+  at : ℕ
+  here : at < b .links
+  from : linkAt b at .from ≡ x .from
+  to : linkAt b at .to ≡ x .to
+  long : delayOf x ≤ delayOf (linkAt b at)
+
 pub record TighterBoard (b b′ : Board) : Type 0 where
   pub parts : b′ .parts ≡ b .parts
   pub slower : (p : ℕ) → curveAt b p .fastest .0 ≤ curveAt b′ p .fastest .0
-  pub linked : (p q : ℕ) → Linked b p q → Linked b′ p q
+  pub longer : (x : Link) → Has b x → Longer b′ x
   pub links : b .links ≤ b′ .links
   pub usable-le : usable b′ ≤ usable b
 
 -- the same links
-same-linked : (b b′ : Board) → b′ .links ≡ b .links → b′ .link ≡ b .link → (p q : ℕ) → Linked b p q → Linked b′ p q
-same-linked b b′ count row p q k = record {
-  link = k .link;
-  here = rw count (k .here);
-  from = ap (λ (l : List Link). getD l (k .link) noLink .from) row ∙ k .from;
-  to = ap (λ (l : List Link). getD l (k .link) noLink .to) row ∙ k .to;
+same-has : (b b′ : Board) → b′ .links ≡ b .links → b′ .link ≡ b .link → (x : Link) → Has b x → Has b′ x
+same-has b b′ count row x k = record { at = k .at; here = rw count (k .here); is = ap (λ (l : List Link). getD l (k .at) noLink) row ∙ k .is }
+
+has-longer : (b : Board) (x : Link) → Has b x → Longer b x
+has-longer b x k = record {
+  at = k .at;
+  here = k .here;
+  from = ap (λ (l : Link). l .from) (k .is);
+  to = ap (λ (l : Link). l .to) (k .is);
+  long = rw (k .is) (le-refl _);
 }
+
+-- links by their ends, where whole links stay
+linked-by : (b b′ : Board) → ((x : Link) → Has b x → Longer b′ x) → (p q : ℕ) → Linked b p q → Linked b′ p q
+linked-by b b′ goes p q k =
+    let l = goes (linkAt b (k .link)) (linked-whole b p q k) in
+    record { link = l .at; here = l .here; from = l .from ∙ k .from; to = l .to ∙ k .to }
+
+same-linked : (b b′ : Board) → b′ .links ≡ b .links → b′ .link ≡ b .link → (p q : ℕ) → Linked b p q → Linked b′ p q
+same-linked b b′ count row = linked-by b b′ (λ x k. has-longer b′ x (same-has b b′ count row x k))
 
 same-fastest : (b b′ : Board) → b′ .curve ≡ b .curve → (p : ℕ) → curveAt b p .fastest .0 ≤ curveAt b′ p .fastest .0
 same-fastest b b′ e p = rw e (le-refl _)
 
 module _ (b b′ : Board) (k : Curve) where
   pub seen-tighter : (c : Change) → changeSeen b b′ c k → changeTightens b c k → TighterBoard b b′
-  unfolding usable
   seen-tighter (Deadline d) s h = record {
     parts = s .parts;
     slower = same-fastest b b′ (s .curve);
-    linked = same-linked b b′ (s .links) (s .link);
+    longer = λ x l. has-longer b′ x (same-has b b′ (s .links) (s .link) x l);
     links = rw (s .links) (le-refl _);
-    usable-le = rw (s .deadline) h;
+    usable-le = usable-lower b b′ (s .rule) (rw (s .deadline) h);
   }
   seen-tighter (AddLink from to) s h = record {
     parts = s .rest .parts;
     slower = same-fastest b b′ (s .rest .curve);
-    linked = s .kept;
+    longer = λ x l. has-longer b′ x (s .kept x l);
     links = omega (arith, s .count);
-    usable-le = rw (s .rest .deadline) (le-refl _);
+    usable-le = usable-lower b b′ (s .rest .rule) (rw (s .rest .deadline) (le-refl _));
   }
   seen-tighter (RemoveLink from to) s h = absurd h
   seen-tighter (NewCurve part) s h = record {
@@ -83,15 +105,15 @@ module _ (b b′ : Board) (k : Curve) where
         (λ (e : p ≡ part). rw (e, s .here) h)
         (λ (ne : p ≢ part). rw (s .elsewhere p ne) (le-refl _))
         (eq-or-ne p part);
-    linked = same-linked b b′ (s .links) (s .link);
+    longer = λ x l. has-longer b′ x (same-has b b′ (s .links) (s .link) x l);
     links = rw (s .links) (le-refl _);
-    usable-le = rw (s .deadline) (le-refl _);
+    usable-le = usable-lower b b′ (s .rule) (rw (s .deadline) (le-refl _));
   }
 
 module _ (b b′ : Board) (tight : TighterBoard b b′) where
-  path-stays : {p q : ℕ} → Path b p q → Path b′ p q
-  path-stays (one l) = one (tight .linked _ _ l)
-  path-stays (more l rest) = more (tight .linked _ _ l) (path-stays rest)
+  path-stays : {p q : ℕ} → Leads b p q → Leads b′ p q
+  path-stays (one l) = one (linked-by b b′ (tight .longer) _ _ l)
+  path-stays (more l rest) = more (linked-by b b′ (tight .longer) _ _ l) (path-stays rest)
 
   free-too : LoopFree b′ → LoopFree b
   free-too free = record { none = λ p h loop. free .none p (rw (tight .parts) h) (path-stays loop) }
@@ -102,8 +124,8 @@ module _ (b b′ : Board) (tight : TighterBoard b b′) where
     parts-in = λ p h. rw (tight .parts) h;
     slower = λ p h. tight .slower p;
     joined = λ l h.
-        let k = tight .linked (linkAt b l .from) (linkAt b l .to) (record { link = l; here = h; from = refl; to = refl }) in
-        record { link = k .link; there = k .here; from-eq = k .from; to-eq = k .to; long = (le-refl _) };
+        let k = tight .longer (linkAt b l) (record { at = l; here = h; is = refl }) in
+        record { link = k .at; there = k .here; from-eq = k .from; to-eq = k .to; long = k .long };
   }
 
   -- what the tighter board is not refused for, the other is not
@@ -133,11 +155,15 @@ fits-before b b′ k (AddLink from to) tight h f = record {
   from-in = rw (tight .parts) at (f .from-in);
   to-in = rw (tight .parts) at (f .to-in);
   apart = f .apart;
-  missing = λ l. f .missing (tight .linked from to l);
+  missing = λ l. f .missing (linked-by b b′ (tight .longer) from to l);
   room = omega (arith, f .room, tight .links);
 }
 fits-before b b′ k (RemoveLink from to) tight h f = absurd h
 fits-before b b′ k (NewCurve part) tight h f = rw (tight .parts) at f
+
+-- a link with given ends that is there
+ended : (b : Board) (x : Link) (from to : ℕ) → x .from ≡ from → x .to ≡ to → Has b x → Linked b from to
+ended b x from to f t k = record { link = k .at; here = k .here; from = ap (λ (l : Link). l .from) (k .is) ∙ f; to = ap (λ (l : Link). l .to) (k .is) ∙ t }
 
 -- and the board after the other
 module _ (b b₁ b₂ : Board) (k k′ : Curve) (from to : ℕ) (f : Addable b from to) (count : b₁ .links ≡ b .links + 1) where
@@ -155,9 +181,9 @@ module _ (b b₁ b₂ : Board) (k k′ : Curve) (from to : ℕ) (f : Addable b f
     apart = f .apart;
     missing = λ l.
         ⊎-elim
-        (λ (there : Linked b from to). f .missing there)
-        (λ (e : Ends from to from′ to′). ne (let x = e .starts in let y = e .ends in cc))
-        (s .only from to l);
+        (λ (there : Has b (linkAt b₂ (l .link))). f .missing (ended b _ from to (l .from) (l .to) there))
+        (λ (e : linkAt b₂ (l .link) ≡ plainLink from′ to′). ne (let x = sym (l .from) ∙ ap (λ (y : Link). y .from) e in let z = sym (l .to) ∙ ap (λ (y : Link). y .to) e in cc))
+        (s .only (linkAt b₂ (l .link)) (linked-whole b₂ from to l));
     room = omega (arith, s .count, count, g .room);
   }
   addable-after (RemoveLink from′ to′) ne s h g = absurd h

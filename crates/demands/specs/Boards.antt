@@ -4,7 +4,7 @@ use Rattle.theory.specs.Graph.{Times}
 use Rattle.theory.specs.Budget.{Budget}
 use Rattle.board.specs.declared.Board.{Board}
 use Rattle.board.specs.Board.{usable, view, WellFormed}
-use Rattle.board.specs.Path.{LoopFree}
+use Rattle.board.specs.Leads.{LoopFree}
 
 -- it has no loop, and some budget of it is allowed
 pub record Plannable (b : Board) : Type 0 where

@@ -4,6 +4,7 @@ use mathlib.Core.Path.{_≡_}
 use mathlib.Core.List.{List}
 use Prim.Native.Nat.{ℕ}
 use Rattle.refusal.specs.declared.Answer.the-variants.{Done}
+use Rattle.board.specs.declared.Rule.the-variants.{A}
 use Rattle.board.specs.declared.Board.{Board}
 use Rattle.fields.specs.Parse.{got}
 use Rattle.design.specs.Design.{designOf}
@@ -15,7 +16,7 @@ use Rattle.demands.specs.Boards.{Plannable}
 -- refusals 1 to 8 do not apply: the file describes a board
 pub record Describes (s : List ℕ) (b : Board) : Type 0 where
   pub size : ℕ
-  pub read : designOf s ≡ got b size
+  pub read : designOf A s ≡ got b size
 
 -- the load is accepted and holds that board
 pub record Accepted (b : Board) (r : Loaded) : Type 0 where

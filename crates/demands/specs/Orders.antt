@@ -73,6 +73,12 @@ pub record Allows (d : Desk) (t : Tally) (o : Order) : Type 0 where
   pub tried : triedOf d t o ≡ Done
   pub plannable : Plannable (changedOf (d .board) o)
 
+-- no listed refusal applies to the bytes s: neither in reading them, which finds an order, nor in trying it
+pub record MayBeMade (d : Desk) (t : Tally) (s : List ℕ) : Type 0 where
+  pub order : Order
+  pub reads : Reads s order
+  pub allows : Allows d t order
+
 -- the other way is accepted too, and ends alike
 pub record OtherWay (r₁₂ r₂ r₂₁ : Ordered) : Type 0 where
   pub first : r₂ .answer ≡ Done

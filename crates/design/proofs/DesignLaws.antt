@@ -1,7 +1,7 @@
 -- A design file: what is read is a well-formed board and the whole file, a well-formed board written is read back, and an accepted file is
 -- rewritten byte for byte.
 -- Assumes nothing.
-use mathlib.Core.Path.{_≡_, refl, sym, _∙_}
+use mathlib.Core.Path.{_≡_, refl, sym, ap, _∙_}
 use mathlib.Core.Bool.{Bool, true, false}
 use mathlib.Core.Logic.{_≢_}
 use mathlib.Core.List.{List, _++_}
@@ -12,7 +12,7 @@ use lib.ListN.{length, getD, length-append}
 use borrow.Author.Tests.{eqb-true, eqb-false, ltb-false, eq-eqb, ne-eqb, le-ltb}
 use Rattle.base.specs.Pick.{pick}
 use Rattle.groups.specs.declared.Read.the-variants.{Number}
-use Rattle.groups.specs.Number.{numberAt, encode}
+use Rattle.groups.specs.Number.{groups, numberAt, encode}
 use Rattle.groups.proofs.RoundTrip.{Bytes}
 use Rattle.curve.specs.declared.Curve.{Curve}
 use Rattle.curve.specs.Curve.{Good}
@@ -23,12 +23,14 @@ use Rattle.fields.proofs.Stands.{Stands, stands-first, stands-then, stands-join
 use Rattle.fields.proofs.Filling.{Filling}
 use Rattle.fields.proofs.WritingLaws.{row-size}
 use Rattle.fields.proofs.CurveFileLaws.{curve-good, curve-next, curve-reads-back, curve-writes-back, curve-size-le, size-to-1, size-to-2}
+use Rattle.board.specs.declared.Rule.{Rule}
 use Rattle.board.specs.declared.Link.{Link}
 use Rattle.board.specs.declared.Board.{Board}
-use Rattle.board.specs.Board.{noCurve, noLink, blankCurve, curveAt, linkAt, order, WellFormed}
+use Rattle.board.specs.Board.{noCurve, plainLink, noLink, blankCurve, curveAt, linkAt, delayOf, order, WellFormed}
 use Rattle.board.specs.Tests.{blankCurves, blankLinks, belowOf}
-use Rattle.board.proofs.LinkLaws.{passed, below-one, below-order}
-use Rattle.design.specs.Design.{versionAt, partFrom, partsFrom, linkOf, above, linkFrom, linkIn, linksFrom, wholeAt, boardOf, linkedFrom, bodyFrom, headFrom, designOf, linkBytes, partsBytes, linksBytes, linkedBytes, bodyBytes, headBytes, fileOf}
+use Rattle.board.proofs.LinkLaws.{passed, link-same, below-one, below-order}
+use Rattle.design.specs.declared.Head.{Head}
+use Rattle.design.specs.Design.{versionAt, partFrom, partsFrom, above, linkFrom, linkIn, linksFrom, wholeAt, boardOf, linkedFrom, bodyFrom, headFrom, designOf, linkBytes, partsBytes, linksBytes, linkedBytes, bodyBytes, headBytes, fileOf}
 use Rattle.design.proofs.Rows.{RowRead, row-read, row-reads-back}
 
 -- ---- the version
@@ -92,6 +94,7 @@ pub record Joins (parts : ℕ) (link : Link) : Type 0 where
   pub from-in : link .from < parts
   pub to-in : link .to < parts
   pub apart : link .from ≢ link .to
+  pub plain : delayOf link ≡ 0
 
 record LinkTold (s : List ℕ) (parts l : ℕ) (before : Link) (m : ℕ) (link : Link) (n : ℕ) : Type 0 where
   joins : Joins parts link
@@ -99,13 +102,14 @@ record LinkTold (s : List ℕ) (parts l : ℕ) (before : Link) (m : ℕ) (link :
   stands : Bytes s → Stands s m (linkBytes link) n
   within : n ≤ length s
 
-told-link : (s : List ℕ) (parts l : ℕ) (before : Link) (m from m₁ to n : ℕ) → 1 ≤ parts → fieldAt s 0 (parts - 1) m ≡ got from m₁ → fieldAt s 0 (parts - 1) m₁ ≡ got to n → above l before (linkOf from to) ≡ true → LinkTold s parts l before m (linkOf from to) n
+told-link : (s : List ℕ) (parts l : ℕ) (before : Link) (m from m₁ to n : ℕ) → 1 ≤ parts → fieldAt s 0 (parts - 1) m ≡ got from m₁ → fieldAt s 0 (parts - 1) m₁ ≡ got to n → above l before (plainLink from to) ≡ true → LinkTold s parts l before m (plainLink from to) n
+unfolding delayOf
 told-link s parts l before m from m₁ to n some is-from is-to e =
     let f = field-got s 0 (parts - 1) m from m₁ is-from in
     let t = field-got s 0 (parts - 1) m₁ to n is-to in
-    let a = above-told l before (linkOf from to) e in
+    let a = above-told l before (plainLink from to) e in
     record {
-      joins = record { from-in = omega (arith, f .to); to-in = omega (arith, t .to); apart = a .0 };
+      joins = record { from-in = omega (arith, f .to); to-in = omega (arith, t .to); apart = a .0; plain = refl };
       after = a .1;
       stands = λ bytes. stands-join (field-stands s 0 (parts - 1) m from m₁ bytes is-from) (field-stands s 0 (parts - 1) m₁ to n bytes is-to);
       within = field-next s 0 (parts - 1) m₁ to n is-to .1;
@@ -117,7 +121,7 @@ link-told s parts l before m link n some is =
     let f = then-got _ _ link n is in
     let t = then-got _ _ link n (f .rest) in
     let p = pick-passed _ _ _ _ link n (t .rest) in
-    got-same (LinkTold s parts l before m) (linkOf (f .value) (t .value)) link (t .place) n (p .is)
+    got-same (LinkTold s parts l before m) (plainLink (f .value) (t .value)) link (t .place) n (p .is)
     (told-link s parts l before m (f .value) (f .place) (t .value) (t .place) some (f .first) (t .first) (p .holds))
 
 abbrev Below : Link → Link → Type 0
@@ -141,8 +145,13 @@ links-told s parts links at link n some few most is =
     })
     links most link n is
 
+-- the order of links does not look at their delays
+ends-below : (before link : Link) → belowOf before (plainLink (link .from) (link .to)) ≡ belowOf before link
+unfolding belowOf
+ends-below before link = refl
+
 link-reads-back : (s : List ℕ) (parts l : ℕ) (before : Link) (m : ℕ) (link : Link) (n : ℕ) → parts ≤ 64 → Joins parts link → ((j : ℕ) → l ≡ suc j → belowOf before link ≡ 1) → Stands s m (linkBytes link) n → linkFrom s parts l before m ≡ got link n
-unfolding linkFrom and-then pick
+unfolding linkFrom delayOf and-then pick
 link-reads-back s parts l before m link n few joins below x =
     let f = encode (link .from) in
     let t = encode (link .to) in
@@ -151,8 +160,8 @@ link-reads-back s parts l before m link n few joins below x =
     rw (
       field-reads-back 0 (parts - 1) (link .from) (omega arith) (omega arith) (omega arith) (stands-first f t x),
       field-reads-back 0 (parts - 1) (link .to) (omega arith) (omega arith) (omega arith) (stands-then f t x),
-      above-holds l before link (joins .apart) below,
-    )
+      above-holds l before (plainLink (link .from) (link .to)) (joins .apart) (λ j same. ends-below before link ∙ below j same),
+    ) (ap (λ (x : Link). got x n) (link-same (plainLink (link .from) (link .to)) link refl refl (sym (joins .plain))))
 
 links-read-back : (s : List ℕ) (at n : ℕ) (b : Board) → WellFormed b → Stands s at (linksBytes b (b .links)) n → linksFrom s (b .parts) (b .links) at ≡ got (b .link) n
 unfolding linksFrom blankLinks linksBytes
@@ -160,7 +169,7 @@ links-read-back s at n b w x =
     row-reads-back s noLink noLink 256 at (b .link) linkBytes (linkIn s (b .parts)) (b .links) (w .links-to)
     (λ k row m l h filling y.
     link-reads-back s (b .parts) k (getD row (k - 1) noLink) m (linkAt b k) l (w .parts-to)
-    (record { from-in = w .from-in k h; to-in = w .to-in k h; apart = w .apart k h })
+    (record { from-in = w .from-in k h; to-in = w .to-in k h; apart = w .apart k h; plain = w .plain k h })
     (λ j same.
     let back : k - 1 ≡ j = omega arith in
     let last = w .to-in j (omega arith) in
@@ -172,13 +181,14 @@ links-read-back s at n b w x =
     n (w .link-room) (w .blank-links) x
 
 -- ---- a board that was read, field by field
-record DesignTold (s : List ℕ) (b : Board) (n : ℕ) : Type 0 where
+record DesignTold (rule : Rule) (s : List ℕ) (b : Board) (n : ℕ) : Type 0 where
   at₀ : ℕ
   at₁ : ℕ
   at₂ : ℕ
   at₃ : ℕ
   at₄ : ℕ
   version : numberAt s 0 ≡ Number 1 at₀
+  ruled : b .rule ≡ rule
   deadline : fieldAt s 1 4095 at₀ ≡ got (b .deadline .0) at₁
   parts : fieldAt s 1 64 at₁ ≡ got (b .parts) at₂
   curves : RowRead s noCurve blankCurve 64 at₂ Good (λ a c. Unit {0}) curveBytes (b .parts) (b .curve) at₃
@@ -186,9 +196,9 @@ record DesignTold (s : List ℕ) (b : Board) (n : ℕ) : Type 0 where
   row : RowRead s noLink noLink 256 at₄ (Joins (b .parts)) Below linkBytes (b .links) (b .link) n
   ended : length s ≤ n
 
-design-told : (s : List ℕ) (b : Board) (n : ℕ) → designOf s ≡ got b n → DesignTold s b n
+design-told : (rule : Rule) (s : List ℕ) (b : Board) (n : ℕ) → designOf rule s ≡ got b n → DesignTold rule s b n
 unfolding designOf headFrom bodyFrom linkedFrom wholeAt
-design-told s b n is =
+design-told rule s b n is =
     let v = then-got _ _ b n is in
     let d = then-got _ _ b n (v .rest) in
     let p = then-got _ _ b n (d .rest) in
@@ -198,7 +208,7 @@ design-told s b n is =
     let w = pick-not-stopped _ _ _ _ b n (r .rest) in
     let parts = field-got s 1 64 (d .place) (p .value) (p .place) (p .first) in
     let links = field-got s 0 256 (c .place) (l .value) (l .place) (l .first) in
-    got-same (DesignTold s) (boardOf (d .value) (p .value) (c .value) (l .value) (r .value)) b (r .place) n (w .1)
+    got-same (DesignTold rule s) (boardOf (record { rule = rule; deadline = d .value; parts = p .value }) (c .value) (l .value) (r .value)) b (r .place) n (w .1)
     (record {
       at₀ = v .place;
       at₁ = d .place;
@@ -206,6 +216,7 @@ design-told s b n is =
       at₃ = c .place;
       at₄ = l .place;
       version = version-told s (v .value) (v .place) (v .first) .1;
+      ruled = refl;
       deadline = d .first;
       parts = p .first;
       curves = parts-told s (p .value) (p .place) (c .value) (c .place) (parts .to) (c .first);
@@ -215,9 +226,9 @@ design-told s b n is =
     })
 
 -- what is read is a well-formed board
-pub design-well-formed : (s : List ℕ) (b : Board) (n : ℕ) → designOf s ≡ got b n → WellFormed b
-design-well-formed s b n is =
-    let t = design-told s b n is in
+pub design-well-formed : (rule : Rule) (s : List ℕ) (b : Board) (n : ℕ) → designOf rule s ≡ got b n → WellFormed b
+design-well-formed rule s b n is =
+    let t = design-told rule s b n is in
     let d = field-got s 1 4095 (t .at₀) (b .deadline .0) (t .at₁) (t .deadline) in
     let p = field-got s 1 64 (t .at₁) (b .parts) (t .at₂) (t .parts) in
     let l = field-got s 0 256 (t .at₃) (b .links) (t .at₄) (t .links) in
@@ -231,6 +242,7 @@ design-well-formed s b n is =
       from-in = λ i h. t .row .each i h .from-in;
       to-in = λ i h. t .row .each i h .to-in;
       apart = λ i h. t .row .each i h .apart;
+      plain = λ i h. t .row .each i h .plain;
       ascends = t .row .neighbours;
       blank-curves = t .curves .back;
       blank-links = t .row .back;
@@ -239,30 +251,37 @@ design-well-formed s b n is =
     }
 
 -- "Nothing follows": an accepted file is read to its end
-pub design-whole : (s : List ℕ) (b : Board) (n : ℕ) → designOf s ≡ got b n → n ≡ length s
-design-whole s b n is =
-    let t = design-told s b n is in
+pub design-whole : (rule : Rule) (s : List ℕ) (b : Board) (n : ℕ) → designOf rule s ≡ got b n → n ≡ length s
+design-whole rule s b n is =
+    let t = design-told rule s b n is in
     let next = field-next s 0 256 (t .at₃) (b .links) (t .at₄) (t .links) in
     let within = t .row .within (next .1) in
     let ended = t .ended in
     omega arith
 
 -- an accepted file is rewritten byte for byte
-pub read-written : (s : List ℕ) (b : Board) (n : ℕ) → Bytes s → designOf s ≡ got b n → fileOf b ≡ s
+pub read-written : (rule : Rule) (s : List ℕ) (b : Board) (n : ℕ) → Bytes s → designOf rule s ≡ got b n → fileOf b ≡ s
 unfolding fileOf headBytes bodyBytes linkedBytes partsBytes linksBytes
-read-written s b n bytes is =
-    let t = design-told s b n is in
+read-written rule s b n bytes is =
+    let t = design-told rule s b n is in
     let all =
     stands-join (number-stands s 0 1 (t .at₀) bytes (t .version))
     (stands-join (field-stands s 1 4095 (t .at₀) (b .deadline .0) (t .at₁) bytes (t .deadline))
     (stands-join (field-stands s 1 64 (t .at₁) (b .parts) (t .at₂) bytes (t .parts))
     (stands-join (t .curves .stands bytes)
     (stands-join (field-stands s 0 256 (t .at₃) (b .links) (t .at₄) bytes (t .links)) (t .row .stands bytes))))) in
-    stands-whole s (fileOf b) (rw (← design-whole s b n is) all)
+    stands-whole s (fileOf b) (rw (← design-whole rule s b n is) all)
+
+-- a board that is read is under the rule named
+pub design-rule : (rule : Rule) (s : List ℕ) (b : Board) (n : ℕ) → designOf rule s ≡ got b n → b .rule ≡ rule
+design-rule rule s b n is = design-told rule s b n is .ruled
 
 -- ---- a well-formed board written is read back, with nothing left over
+abbrev headOf : Board → Head
+headOf b = record { rule = b .rule; deadline = b .deadline .0; parts = b .parts }
+
 module _ (b : Board) (w : WellFormed b) where
-  linked-read-back : (s : List ℕ) (at n : ℕ) → length s ≤ n → Stands s at (encode (b .links) ++ linksBytes b (b .links)) n → linkedFrom s (b .deadline .0) (b .parts) (b .curve) at ≡ got b n
+  linked-read-back : (s : List ℕ) (at n : ℕ) → length s ≤ n → Stands s at (encode (b .links) ++ linksBytes b (b .links)) n → linkedFrom s (headOf b) (b .curve) at ≡ got b n
   unfolding linkedFrom wholeAt and-then pick
   linked-read-back s at n ended x =
       let l = encode (b .links) in
@@ -273,14 +292,14 @@ module _ (b : Board) (w : WellFormed b) where
         le-ltb n (length s) ended,
       )
 
-  body-read-back : (s : List ℕ) (at n : ℕ) → length s ≤ n → Stands s at (partsBytes b (b .parts) ++ (encode (b .links) ++ linksBytes b (b .links))) n → bodyFrom s (b .deadline .0) (b .parts) at ≡ got b n
+  body-read-back : (s : List ℕ) (at n : ℕ) → length s ≤ n → Stands s at (partsBytes b (b .parts) ++ (encode (b .links) ++ linksBytes b (b .links))) n → bodyFrom s (headOf b) at ≡ got b n
   unfolding bodyFrom and-then
   body-read-back s at n ended x =
       let c = partsBytes b (b .parts) in
       let r = encode (b .links) ++ linksBytes b (b .links) in
       rw (parts-read-back s at (at + length c) b w (stands-first c r x)) (linked-read-back s (at + length c) n ended (stands-then c r x))
 
-  pub reads-back : (s : List ℕ) → Stands s 0 (fileOf b) (length s) → designOf s ≡ got b (length s)
+  pub reads-back : (s : List ℕ) → Stands s 0 (fileOf b) (length s) → designOf (b .rule) s ≡ got b (length s)
   unfolding designOf headFrom fileOf headBytes bodyBytes linkedBytes and-then
   reads-back s x =
       let v = encode 1 in
@@ -295,10 +314,10 @@ module _ (b : Board) (w : WellFormed b) where
         field-reads-back 1 64 (b .parts) (omega arith) (w .parts-from) (w .parts-to) (stands-first p r x₂),
       ) (body-read-back s _ (length s) (omega arith) (stands-then p r x₂))
 
-  pub written-read : designOf (fileOf b) ≡ got b (length (fileOf b))
+  pub written-read : designOf (b .rule) (fileOf b) ≡ got b (length (fileOf b))
   written-read = reads-back (fileOf b) (stands-front (fileOf b))
 
-  -- ---- "At most 1,926 bytes."
+  -- ---- 02, Req 02: "The longest design file is 1,990 bytes"
   links-size : length (linksBytes b (b .links)) ≤ 2 * b .links
   unfolding linksBytes
   links-size =
@@ -309,11 +328,11 @@ module _ (b : Board) (w : WellFormed b) where
       let few = w .parts-to in
       omega (arith, length-append (encode (linkAt b i .from)) (encode (linkAt b i .to)), size-to-1 (linkAt b i .from) (omega arith), size-to-1 (linkAt b i .to) (omega arith)))
 
-  parts-size : length (partsBytes b (b .parts)) ≤ 22 * b .parts
+  parts-size : length (partsBytes b (b .parts)) ≤ (19 + groups) * b .parts
   unfolding partsBytes
-  parts-size = row-size (λ p. curveBytes (curveAt b p)) 22 (b .parts) (λ i h. curve-size-le (curveAt b i) (w .curves i h))
+  parts-size = row-size (λ p. curveBytes (curveAt b p)) (19 + groups) (b .parts) (λ i h. curve-size-le (curveAt b i) (w .curves i h))
 
-  pub file-size-le : length (fileOf b) ≤ 1926
+  pub file-size-le : length (fileOf b) ≤ 1990
   unfolding fileOf headBytes bodyBytes linkedBytes
   file-size-le =
       let d = encode (b .deadline .0) in

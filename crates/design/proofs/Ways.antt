@@ -24,15 +24,17 @@ use Rattle.fields.specs.Parse.{Parse, got, stop, and-then, repeat, number, fiel
 use Rattle.fields.specs.CurveFile.{curveFrom, curveRead}
 use Rattle.fields.proofs.ParseLaws.{field-got}
 use Rattle.fields.proofs.Ways.{read-got, read-stop}
+use Rattle.board.specs.declared.Rule.{Rule}
 use Rattle.board.specs.declared.Link.{Link}
 use Rattle.board.specs.declared.Board.{Board}
-use Rattle.board.specs.Board.{noLink}
+use Rattle.board.specs.Board.{plainLink, noLink}
 use Rattle.board.specs.Tests.{blankCurves, blankLinks, emptyOf, belowOf}
+use Rattle.design.specs.declared.Head.{Head}
 use Rattle.design.specs.declared.PartsRead.{PartsRead}
 use Rattle.design.specs.declared.LinkRead.{LinkRead}
 use Rattle.design.specs.declared.LinksRead.{LinksRead}
 use Rattle.design.specs.declared.DesignRead.{DesignRead}
-use Rattle.design.specs.Design.{versionAt, inPlace, partFrom, partsFrom, linkOf, above, linkFrom, linkIn, linksFrom, wholeAt, boardOf, linkedFrom, bodyFrom, headFrom, designOf}
+use Rattle.design.specs.Design.{versionAt, inPlace, partFrom, partsFrom, above, linkFrom, linkIn, linksFrom, wholeAt, boardOf, linkedFrom, bodyFrom, headFrom, designOf}
 use Rattle.design.specs.Answers.{partsRead, partsStopped, linkRead, linksRead, linksStopped, noBoard, stopped, designRead}
 use Rattle.design.proofs.Rows.{row-on, row-fault}
 
@@ -85,6 +87,9 @@ module _ (s : List ℕ) (parts at p : ℕ) (curve : List Curve) (next : ℕ) (so
   parts-end l h = let same : parts ≡ p = omega arith in rw (same, so-far)
 
 -- ---- `read_link`
+pub no-link-read : (why : Why) (place : ℕ) (x : Link) → x ≡ plainLink 0 0 → record { answer = Refused why place; next = 0; link = x } ≡ linkRead (stop why place)
+no-link-read why place x is = rw is
+
 module _ (s : List ℕ) (parts l : ℕ) (before : Link) (at : ℕ) (f : Read) (is : number f ≡ fieldAt s 0 (parts - 1) at) where
   pub link-no-from : (why : Why) (place : ℕ) (r : LinkRead) → f ≡ read.Refused why place → r ≡ linkRead (stop why place) → r ≡ linkRead (linkFrom s parts l before at)
   unfolding linkFrom and-then
@@ -95,14 +100,18 @@ module _ (s : List ℕ) (parts l : ℕ) (before : Link) (at : ℕ) (f : Read) (i
     unfolding linkFrom and-then
     link-no-to why place r e₁ ends = rw (← is, e, ← is₁, e₁) ends
 
-    module _ (to next : ℕ) (e₁ : g ≡ Number to next) (up : Bool) (tests : up ≡ above l before (linkOf from to)) where
+    module _ (to next : ℕ) (e₁ : g ≡ Number to next) (link : Link) (joins : link ≡ plainLink from to) (up : Bool) (tests : up ≡ above l before link) where
       pub link-not-above : (r : LinkRead) → not up ≡ true → r ≡ linkRead (stop LinkNotAbove at) → r ≡ linkRead (linkFrom s parts l before at)
       unfolding linkFrom and-then pick
-      link-not-above r h ends = let b : above l before (linkOf from to) ≡ false = sym tests ∙ not-true up h in rw (← is, e, ← is₁, e₁, b) ends
+      link-not-above r h ends =
+          let b : above l before (plainLink from to) ≡ false = ap (above l before) (sym joins) ∙ sym tests ∙ not-true up h in
+          rw (← is, e, ← is₁, e₁, b) ends
 
-      pub link-read : not up ≡ false → record { answer = Done; next = next; link = linkOf from to } ≡ linkRead (linkFrom s parts l before at)
+      pub link-read : not up ≡ false → record { answer = Done; next = next; link = link } ≡ linkRead (linkFrom s parts l before at)
       unfolding linkFrom and-then pick
-      link-read h = let b : above l before (linkOf from to) ≡ true = sym tests ∙ not-false up h in rw (← is, e, ← is₁, e₁, b)
+      link-read h =
+          let b : above l before (plainLink from to) ≡ true = ap (above l before) (sym joins) ∙ sym tests ∙ not-false up h in
+          rw (← is, e, ← is₁, e₁, b, joins)
 
 link-got : (p : Parse Link) (r : LinkRead) → r ≡ linkRead p → r .answer ≡ Done → p ≡ got (r .link) (r .next)
 link-got (got a n) r e d = rw e
@@ -117,9 +126,9 @@ pub links-start : (s : List ℕ) (parts at : ℕ) (link : List Link) → link �
 unfolding repeat
 links-start s parts at link is = rw is
 
-pub none-before : (link : List Link) → link ≡ blankLinks → noLink ≡ getD link (0 - 1) noLink
+pub none-before : (link : List Link) (x : Link) → x ≡ plainLink 0 0 → link ≡ blankLinks → x ≡ getD link (0 - 1) noLink
 unfolding blankLinks
-none-before link is = rw is
+none-before link x blank is = rw (blank, is)
 
 pub links-long : (link : List Link) → link ≡ blankLinks → length link ≡ 256
 unfolding blankLinks
@@ -167,8 +176,8 @@ links-stop : (p : Parse (List Link)) (r : LinksRead) (why : Why) (place : ℕ) �
 links-stop (got a n) r why place e d = let z : _≡_ {A = ℕ} 0 1 = cc in absurd (omega arith)
 links-stop (stop w q) r why place e d = let f : Refused w q ≡ Refused why place = sym (ap (λ (x : LinksRead). x .answer) e) ∙ d in cc
 
-module _ (s : List ℕ) (deadline parts : ℕ) (curve : List Curve) (at : ℕ) (f : Read) (is : number f ≡ fieldAt s 0 256 at) where
-  pub linked-no-count : (why : Why) (place : ℕ) (r : DesignRead) → f ≡ read.Refused why place → r ≡ stopped (Refused why place) → r ≡ designRead (linkedFrom s deadline parts curve at)
+module _ (s : List ℕ) (head : Head) (curve : List Curve) (at : ℕ) (f : Read) (is : number f ≡ fieldAt s 0 256 at) where
+  pub linked-no-count : (why : Why) (place : ℕ) (r : DesignRead) → f ≡ read.Refused why place → r ≡ stopped (Refused why place) → r ≡ designRead (linkedFrom s head curve at)
   unfolding linkedFrom and-then
   linked-no-count why place r e ends = rw (← is, e) ends
 
@@ -176,14 +185,14 @@ module _ (s : List ℕ) (deadline parts : ℕ) (curve : List Curve) (at : ℕ) (
     pub linked-few : links ≤ 256
     linked-few = field-got s 0 256 at links at₁ (sym is ∙ ap number e) .to
 
-    module _ (r : LinksRead) (all : r ≡ linksRead (linksFrom s parts links at₁)) where
-      pub linked-stopped : (why : Why) (place : ℕ) (q : DesignRead) → r .answer ≡ Refused why place → q ≡ stopped (r .answer) → q ≡ designRead (linkedFrom s deadline parts curve at)
+    module _ (r : LinksRead) (all : r ≡ linksRead (linksFrom s (head .parts) links at₁)) where
+      pub linked-stopped : (why : Why) (place : ℕ) (q : DesignRead) → r .answer ≡ Refused why place → q ≡ stopped (r .answer) → q ≡ designRead (linkedFrom s head curve at)
       unfolding linkedFrom and-then
-      linked-stopped why place q fault ends = rw (← is, e, links-stop (linksFrom s parts links at₁) r why place all fault, ← fault) ends
+      linked-stopped why place q fault ends = rw (← is, e, links-stop (linksFrom s (head .parts) links at₁) r why place all fault, ← fault) ends
 
-      pub linked-read : (q : DesignRead) → r .answer ≡ Done → q ≡ designRead (wholeAt s (boardOf deadline parts curve links (r .link)) (r .next)) → q ≡ designRead (linkedFrom s deadline parts curve at)
+      pub linked-read : (q : DesignRead) → r .answer ≡ Done → q ≡ designRead (wholeAt s (boardOf head curve links (r .link)) (r .next)) → q ≡ designRead (linkedFrom s head curve at)
       unfolding linkedFrom and-then
-      linked-read q done ends = rw (← is, e, links-got (linksFrom s parts links at₁) r all done) ends
+      linked-read q done ends = rw (← is, e, links-got (linksFrom s (head .parts) links at₁) r all done) ends
 
 -- ---- `read_body`
 parts-got : (p : Parse (List Curve)) (r : PartsRead) → r ≡ partsRead p → r .answer ≡ Done → p ≡ got (r .curve) (r .next)
@@ -194,27 +203,27 @@ parts-stop : (p : Parse (List Curve)) (r : PartsRead) (why : Why) (place : ℕ) 
 parts-stop (got a n) r why place e d = let z : _≡_ {A = ℕ} 0 1 = cc in absurd (omega arith)
 parts-stop (stop w q) r why place e d = let f : Refused w q ≡ Refused why place = sym (ap (λ (x : PartsRead). x .answer) e) ∙ d in cc
 
-module _ (s : List ℕ) (deadline parts at : ℕ) (r : PartsRead) (all : r ≡ partsRead (partsFrom s parts at)) where
-  pub body-stopped : (why : Why) (place : ℕ) (q : DesignRead) → r .answer ≡ Refused why place → q ≡ stopped (r .answer) → q ≡ designRead (bodyFrom s deadline parts at)
+module _ (s : List ℕ) (head : Head) (at : ℕ) (r : PartsRead) (all : r ≡ partsRead (partsFrom s (head .parts) at)) where
+  pub body-stopped : (why : Why) (place : ℕ) (q : DesignRead) → r .answer ≡ Refused why place → q ≡ stopped (r .answer) → q ≡ designRead (bodyFrom s head at)
   unfolding bodyFrom and-then
-  body-stopped why place q fault ends = rw (parts-stop (partsFrom s parts at) r why place all fault, ← fault) ends
+  body-stopped why place q fault ends = rw (parts-stop (partsFrom s (head .parts) at) r why place all fault, ← fault) ends
 
-  pub body-read : (q : DesignRead) → r .answer ≡ Done → q ≡ designRead (linkedFrom s deadline parts (r .curve) (r .next)) → q ≡ designRead (bodyFrom s deadline parts at)
+  pub body-read : (q : DesignRead) → r .answer ≡ Done → q ≡ designRead (linkedFrom s head (r .curve) (r .next)) → q ≡ designRead (bodyFrom s head at)
   unfolding bodyFrom and-then
-  body-read q done ends = rw (parts-got (partsFrom s parts at) r all done) ends
+  body-read q done ends = rw (parts-got (partsFrom s (head .parts) at) r all done) ends
 
 -- ---- `read_head`
-module _ (s : List ℕ) (at : ℕ) (f : Read) (is : number f ≡ fieldAt s 1 4095 at) where
-  pub head-no-deadline : (why : Why) (place : ℕ) (r : DesignRead) → f ≡ read.Refused why place → r ≡ stopped (Refused why place) → r ≡ designRead (headFrom s at)
+module _ (s : List ℕ) (rule : Rule) (at : ℕ) (f : Read) (is : number f ≡ fieldAt s 1 4095 at) where
+  pub head-no-deadline : (why : Why) (place : ℕ) (r : DesignRead) → f ≡ read.Refused why place → r ≡ stopped (Refused why place) → r ≡ designRead (headFrom s rule at)
   unfolding headFrom and-then
   head-no-deadline why place r e ends = rw (← is, e) ends
 
   module _ (deadline at₁ : ℕ) (e : f ≡ Number deadline at₁) (g : Read) (is₁ : number g ≡ fieldAt s 1 64 at₁) where
-    pub head-no-parts : (why : Why) (place : ℕ) (r : DesignRead) → g ≡ read.Refused why place → r ≡ stopped (Refused why place) → r ≡ designRead (headFrom s at)
+    pub head-no-parts : (why : Why) (place : ℕ) (r : DesignRead) → g ≡ read.Refused why place → r ≡ stopped (Refused why place) → r ≡ designRead (headFrom s rule at)
     unfolding headFrom and-then
     head-no-parts why place r e₁ ends = rw (← is, e, ← is₁, e₁) ends
 
-    pub head-read : (parts at₂ : ℕ) (r : DesignRead) → g ≡ Number parts at₂ → r ≡ designRead (bodyFrom s deadline parts at₂) → r ≡ designRead (headFrom s at)
+    pub head-read : (parts at₂ : ℕ) (r : DesignRead) → g ≡ Number parts at₂ → r ≡ designRead (bodyFrom s (record { rule = rule; deadline = deadline; parts = parts }) at₂) → r ≡ designRead (headFrom s rule at)
     unfolding headFrom and-then
     head-read parts at₂ r e₁ ends = rw (← is, e, ← is₁, e₁) ends
 
@@ -226,12 +235,12 @@ pub few-parts : (s : List ℕ) (at : ℕ) (g : Read) (parts n : ℕ) → number 
 few-parts s at g parts n is e = field-got s 1 64 at parts n (sym is ∙ ap number e) .to
 
 -- ---- `read_design`
-module _ (s : List ℕ) (f : Read) (is : number f ≡ versionAt s) where
-  pub design-no-version : (why : Why) (place : ℕ) (r : DesignRead) → f ≡ read.Refused why place → r ≡ stopped (Refused why place) → r ≡ designRead (designOf s)
+module _ (s : List ℕ) (rule : Rule) (f : Read) (is : number f ≡ versionAt s) where
+  pub design-no-version : (why : Why) (place : ℕ) (r : DesignRead) → f ≡ read.Refused why place → r ≡ stopped (Refused why place) → r ≡ designRead (designOf rule s)
   unfolding designOf and-then
   design-no-version why place r e ends = rw (← is, e) ends
 
-  pub design-read : (version at : ℕ) (r : DesignRead) → f ≡ Number version at → r ≡ designRead (headFrom s at) → r ≡ designRead (designOf s)
+  pub design-read : (version at : ℕ) (r : DesignRead) → f ≡ Number version at → r ≡ designRead (headFrom s rule at) → r ≡ designRead (designOf rule s)
   unfolding designOf and-then
   design-read version at r e ends = rw (← is, e) ends
 

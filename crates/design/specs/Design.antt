@@ -8,20 +8,22 @@ use mathlib.Core.List.{List, _++_}
 use lib.Dec.{ltb, eqb}
 use lib.ListN.{length, getD, set}
 use Rattle.base.specs.Pick.{pick}
-use Rattle.refusal.specs.declared.Why.the-variants.{WrongVersion, LinkNotAbove, BytesAfter}
+use Rattle.refusal.specs.Refusal.{by}
 use Rattle.curve.specs.declared.Curve.{Curve}
 use Rattle.groups.specs.Number.{numberAt, encode}
 use Rattle.fields.specs.Parse.{Parse, got, stop, and-then, repeat, number, fieldAt}
 use Rattle.fields.specs.Writing.{inRow}
 use Rattle.fields.specs.CurveFile.{curveFrom, curveBytes}
+use Rattle.board.specs.declared.Rule.{Rule}
 use Rattle.board.specs.declared.Link.{Link}
 use Rattle.board.specs.declared.Board.{Board}
-use Rattle.board.specs.Board.{noLink, curveAt, linkAt}
+use Rattle.board.specs.Board.{plainLink, noLink, curveAt, linkAt}
 use Rattle.board.specs.Tests.{blankCurves, blankLinks, belowOf}
+use Rattle.design.specs.declared.Head.{Head}
 
 -- "version not 1", place 0
 unfoldable pub versionAt : List ℕ → Parse ℕ
-versionAt s = and-then (number (numberAt s 0)) (λ v next. pick (eqb v 1) (got v next) (stop WrongVersion 0))
+versionAt s = and-then (number (numberAt s 0)) (λ v next. pick (eqb v 1) (got v next) (stop (by 3) 0))
 
 -- what is read next is put in place i of a row
 unfoldable pub inPlace : {A : Type 0} → (ℕ → List A → ℕ → Parse A) → ℕ → List A → ℕ → Parse (List A)
@@ -35,9 +37,6 @@ partFrom s p before at = curveFrom s at
 unfoldable pub partsFrom : List ℕ → ℕ → ℕ → Parse (List Curve)
 partsFrom s parts at = repeat (inPlace (partFrom s)) blankCurves at parts
 
-abbrev pub linkOf : ℕ → ℕ → Link
-linkOf from to = record { from = from; to = to }
-
 -- "self-link; in a file also link not above the one before", which link 0 does not have
 unfoldable pub above : ℕ → Link → Link → Bool
 above l before link = pick (eqb (link .from) (link .to)) false (pick (eqb l 0) true (eqb (belowOf before link) 1))
@@ -47,7 +46,7 @@ unfoldable pub linkFrom : List ℕ → ℕ → ℕ → Link → ℕ → Parse Li
 linkFrom s parts l before at =
     and-then (fieldAt s 0 (parts - 1) at) (λ from at₁.
     and-then (fieldAt s 0 (parts - 1) at₁) (λ to at₂.
-    pick (above l before (linkOf from to)) (got (linkOf from to) at₂) (stop LinkNotAbove at)))
+    pick (above l before (plainLink from to)) (got (plainLink from to) at₂) (stop (by 7) at)))
 
 -- a link after those in the row before it
 abbrev pub linkIn : List ℕ → ℕ → ℕ → List Link → ℕ → Parse Link
@@ -59,38 +58,39 @@ linksFrom s parts links at = repeat (inPlace (linkIn s parts)) blankLinks at lin
 
 -- "bytes after the design", place: "first of them"
 unfoldable pub wholeAt : List ℕ → Board → ℕ → Parse Board
-wholeAt s b at = pick (ltb at (length s)) (stop BytesAfter at) (got b at)
+wholeAt s b at = pick (ltb at (length s)) (stop (by 8) at) (got b at)
 
-abbrev pub boardOf : ℕ → ℕ → List Curve → ℕ → List Link → Board
-boardOf deadline parts curve links link = record {
-  deadline = record { 0 = deadline };
-  parts = parts;
+abbrev pub boardOf : Head → List Curve → ℕ → List Link → Board
+boardOf head curve links link = record {
+  rule = head .rule;
+  deadline = record { 0 = head .deadline };
+  parts = head .parts;
   curve = curve;
   links = links;
   link = link;
 }
 
 -- link count and links, and nothing more
-unfoldable pub linkedFrom : List ℕ → ℕ → ℕ → List Curve → ℕ → Parse Board
-linkedFrom s deadline parts curve at =
+unfoldable pub linkedFrom : List ℕ → Head → List Curve → ℕ → Parse Board
+linkedFrom s head curve at =
     and-then (fieldAt s 0 256 at) (λ links at₁.
-    and-then (linksFrom s parts links at₁) (λ link at₂.
-    wholeAt s (boardOf deadline parts curve links link) at₂))
+    and-then (linksFrom s (head .parts) links at₁) (λ link at₂.
+    wholeAt s (boardOf head curve links link) at₂))
 
 -- parts and all that follows
-unfoldable pub bodyFrom : List ℕ → ℕ → ℕ → ℕ → Parse Board
-bodyFrom s deadline parts at = and-then (partsFrom s parts at) (linkedFrom s deadline parts)
+unfoldable pub bodyFrom : List ℕ → Head → ℕ → Parse Board
+bodyFrom s head at = and-then (partsFrom s (head .parts) at) (linkedFrom s head)
 
 -- deadline, part count and all that follows
-unfoldable pub headFrom : List ℕ → ℕ → Parse Board
-headFrom s at =
+unfoldable pub headFrom : List ℕ → Rule → ℕ → Parse Board
+headFrom s rule at =
     and-then (fieldAt s 1 4095 at) (λ deadline at₁.
     and-then (fieldAt s 1 64 at₁) (λ parts at₂.
-    bodyFrom s deadline parts at₂))
+    bodyFrom s (record { rule = rule; deadline = deadline; parts = parts }) at₂))
 
--- the board that a file describes, or the first of refusals 1 to 8 with its place
-unfoldable pub designOf : List ℕ → Parse Board
-designOf s = and-then (versionAt s) (λ version at. headFrom s at)
+-- the board that a file describes under a rule, or the first of refusals 1 to 8 with its place
+unfoldable pub designOf : Rule → List ℕ → Parse Board
+designOf rule s = and-then (versionAt s) (λ version at. headFrom s rule at)
 
 -- ---- the file of a board
 abbrev pub linkBytes : Link → List ℕ

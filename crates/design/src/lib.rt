@@ -1,6 +1,7 @@
 // A design file, read and written. A reading stops at the first fault; loops and slow paths are another crate's.
 use board::Board;
 use board::Link;
+use board::Rule;
 use curve::Curve;
 use curve::Ticks;
 use groups::Read;
@@ -18,6 +19,13 @@ ghost use Rattle.design.specs.Answers.{partsRead, partsStopped, linkRead
 pub struct DesignRead {
     pub answer: Answer,
     pub board: Board,
+}
+
+// What a file says before its parts, and the rule that it is read under.
+struct Head {
+    rule: Rule,
+    deadline: u32,
+    parts: usize,
 }
 
 struct PartsRead {
@@ -123,10 +131,11 @@ fn is_above(l: usize, before: Link, link: Link) -> bool
 fn link_refused(why: Why, place: usize) -> LinkRead
     ensures { λ r. ⌜ r ≡ linkRead (stop why place) ⌝ }
 {
+    let link = board::plain_link(0, 0);
     LinkRead {
         answer: Answer::Refused { why, place },
         next: 0,
-        link: Link { from: 0, to: 0 },
+        link,
     }
 }
 
@@ -144,12 +153,7 @@ fn read_link(s: &[u8], parts: usize, l: usize, before: Link, at: usize) -> LinkR
         } => match fields::field(s, to_at, 0, last) {
             Read::Refused { why, place } => link_refused(why, place),
             Read::Number { value: to, next } => {
-                let first = from as usize;
-                let second = to as usize;
-                let link = Link {
-                    from: first,
-                    to: second,
-                };
+                let link = board::plain_link(from as usize, to as usize);
                 if !is_above(l, before, link) {
                     return link_refused(Why::LinkNotAbove, at);
                 }
@@ -180,7 +184,7 @@ fn read_links(s: &[u8], parts: usize, links: usize, at: usize) -> LinksRead
     ensures { λ r. ⌜ r ≡ linksRead (linksFrom (now (s .entry)) parts links at) ⌝ }
 {
     let mut link = no_links();
-    let mut before = Link { from: 0, to: 0 };
+    let mut before = board::plain_link(0, 0);
     let mut next = at;
     let mut l: usize = 0;
     while l < links {
@@ -227,21 +231,24 @@ fn whole(s: &[u8], b: Board, at: usize) -> DesignRead
 }
 
 // Link count, links and the end of the file.
-fn read_linked(s: &[u8], deadline: u32, parts: usize, curve: [Curve; 64], at: usize) -> DesignRead
-    requires { ⌜ (1 ≤ parts) × (parts ≤ 64) ⌝ }
-    ensures { λ r. ⌜ r ≡ designRead (linkedFrom (now (s .entry)) deadline parts curve at) ⌝ }
+fn read_linked(s: &[u8], head: Head, curve: [Curve; 64], at: usize) -> DesignRead
+    requires { ⌜ (1 ≤ head .parts) × (head .parts ≤ 64) ⌝ }
+    ensures { λ r. ⌜ r ≡ designRead (linkedFrom (now (s .entry)) head curve at) ⌝ }
 {
     match fields::field(s, at, 0, 256) {
         Read::Refused { why, place } => stop(Answer::Refused { why, place }),
         Read::Number { value: links, next } => {
+            let parts = head.parts;
             let r = read_links(s, parts, links as usize, next);
             let a = r.answer;
             let Answer::Done = a else {
                 return stop(a);
             };
             let link = r.link;
+            let rule = head.rule;
             let b = Board {
-                deadline: Ticks(deadline),
+                rule,
+                deadline: Ticks(head.deadline),
                 parts,
                 curve,
                 links: links as usize,
@@ -253,22 +260,23 @@ fn read_linked(s: &[u8], deadline: u32, parts: usize, curve: [Curve; 64], at: us
 }
 
 // All that follows the part count.
-fn read_body(s: &[u8], deadline: u32, parts: usize, at: usize) -> DesignRead
-    requires { ⌜ (1 ≤ parts) × (parts ≤ 64) ⌝ }
-    ensures { λ r. ⌜ r ≡ designRead (bodyFrom (now (s .entry)) deadline parts at) ⌝ }
+fn read_body(s: &[u8], head: Head, at: usize) -> DesignRead
+    requires { ⌜ (1 ≤ head .parts) × (head .parts ≤ 64) ⌝ }
+    ensures { λ r. ⌜ r ≡ designRead (bodyFrom (now (s .entry)) head at) ⌝ }
 {
+    let parts = head.parts;
     let r = read_parts(s, parts, at);
     let a = r.answer;
     let Answer::Done = a else {
         return stop(a);
     };
     let curve = r.curve;
-    read_linked(s, deadline, parts, curve, r.next)
+    read_linked(s, head, curve, r.next)
 }
 
 // All that follows the version.
-fn read_head(s: &[u8], at: usize) -> DesignRead
-    ensures { λ r. ⌜ r ≡ designRead (headFrom (now (s .entry)) at) ⌝ }
+fn read_head(s: &[u8], rule: Rule, at: usize) -> DesignRead
+    ensures { λ r. ⌜ r ≡ designRead (headFrom (now (s .entry)) rule at) ⌝ }
 {
     match fields::field(s, at, 1, 4095) {
         Read::Refused { why, place } => stop(Answer::Refused { why, place }),
@@ -277,17 +285,25 @@ fn read_head(s: &[u8], at: usize) -> DesignRead
             next: parts_at,
         } => match fields::field(s, parts_at, 1, 64) {
             Read::Refused { why, place } => stop(Answer::Refused { why, place }),
-            Read::Number { value: parts, next } => { read_body(s, deadline, parts as usize, next) }
+            Read::Number { value: parts, next } => {
+                let parts = parts as usize;
+                let head = Head {
+                    rule,
+                    deadline,
+                    parts,
+                };
+                read_body(s, head, next)
+            }
         },
     }
 }
 
-// The board that a file describes.
-pub fn read_design(s: &[u8]) -> DesignRead
-    ensures { λ r. ⌜ r ≡ designRead (designOf (now (s .entry))) ⌝ }
+// The board that a file describes under a rule.
+pub fn read_design(s: &[u8], rule: Rule) -> DesignRead
+    ensures { λ r. ⌜ r ≡ designRead (designOf rule (now (s .entry))) ⌝ }
 {
     match read_version(s) {
         Read::Refused { why, place } => stop(Answer::Refused { why, place }),
-        Read::Number { value: _, next } => read_head(s, next),
+        Read::Number { value: _, next } => read_head(s, rule, next),
     }
 }

@@ -17,6 +17,7 @@ use Rattle.curve.specs.Curve.{lengthAt, savingAt, savingsOf}
 use Rattle.board.proofs.LinkLaws.{both-hold}
 use Rattle.fields.specs.Parse.{got, stop, and-then, repeat, rangedAt, fieldAt}
 use Rattle.fields.specs.CurveFile.{bare, falls, runFrom, runsFrom, curveFrom}
+use Rattle.board.specs.declared.Rule.the-variants.{A}
 use Rattle.board.specs.Board.{blankCurve}
 use Rattle.board.specs.Tests.{blankCurves, blankLinks, belowOf}
 use Rattle.design.specs.Design.{versionAt, inPlace, partFrom, partsFrom, above, linkFrom, linksFrom, wholeAt, linkedFrom, bodyFrom, headFrom, designOf, fileOf}
@@ -24,11 +25,11 @@ use Rattle.design.proofs.DesignLaws.{read-written, written-read, design-well-fo
 use Rattle.design_cases.specs.Boards.{K, fileK, D, fileD}
 
 -- ---- boards K and D
-pub K-read : designOf fileK ≡ got K 34
+pub K-read : designOf A fileK ≡ got K 34
 unfolding designOf versionAt headFrom bodyFrom linkedFrom partsFrom partFrom linksFrom linkFrom wholeAt inPlace above belowOf blankCurves blankLinks blankCurve curveFrom runsFrom runFrom bare falls savingsOf lengthAt savingAt sum repeat and-then fieldAt rangedAt numberAt groupsFrom shortestEnd pick K fileK
 K-read = refl
 
-pub D-read : designOf fileD ≡ got D 23
+pub D-read : designOf A fileD ≡ got D 23
 unfolding designOf versionAt headFrom bodyFrom linkedFrom partsFrom partFrom linksFrom linkFrom wholeAt inPlace above belowOf blankCurves blankLinks blankCurve curveFrom runsFrom runFrom bare falls savingsOf lengthAt savingAt sum repeat and-then fieldAt rangedAt numberAt groupsFrom shortestEnd pick D fileD
 D-read = refl
 
@@ -52,45 +53,56 @@ unfolding fileD every-byte pick
 bytes-D = all-bytes fileD refl
 
 pub K-written : fileOf K ≡ fileK
-K-written = read-written fileK K 34 bytes-K K-read
+K-written = read-written A fileK K 34 bytes-K K-read
 
 pub D-written : fileOf D ≡ fileD
-D-written = read-written fileD D 23 bytes-D D-read
+D-written = read-written A fileD D 23 bytes-D D-read
 
-pub D-read-back : designOf (fileOf D) ≡ got D (length (fileOf D))
-D-read-back = written-read D (design-well-formed fileD D 23 D-read)
+pub D-read-back : designOf A (fileOf D) ≡ got D (length (fileOf D))
+unfolding D
+D-read-back = written-read D (design-well-formed A fileD D 23 D-read)
 
 -- ---- a fault each, with its place
 pub record Faults : Type 0 where
   -- 1: the input ends after three numbers; place: its length
-  pub cut-short : designOf (1 ∷ 10 ∷ 4 ∷ []) ≡ stop CutShort 3
+  pub cut-short : designOf A (1 ∷ 10 ∷ 4 ∷ []) ≡ stop CutShort 3
   -- 2: `80 00` for a deadline; place: its first byte
-  pub not-shortest : designOf (1 ∷ 128 ∷ 0 ∷ []) ≡ stop NotShortest 1
+  pub not-shortest : designOf A (1 ∷ 128 ∷ 0 ∷ []) ≡ stop NotShortest 1
+  -- 02, Req 02: "1 is for under four groups read, 2 for a fourth that promises a fifth"
+  pub three-groups-cut : designOf A (1 ∷ 128 ∷ 128 ∷ 128 ∷ []) ≡ stop CutShort 4
+  pub fifth-promised : designOf A (1 ∷ 128 ∷ 128 ∷ 128 ∷ 128 ∷ []) ≡ stop NotShortest 1
   -- 3
-  pub wrong-version : designOf (2 ∷ 10 ∷ []) ≡ stop WrongVersion 0
+  pub wrong-version : designOf A (2 ∷ 10 ∷ []) ≡ stop WrongVersion 0
   -- 4: no parts; a link to a part that is not there
-  pub no-parts : designOf (1 ∷ 10 ∷ 0 ∷ []) ≡ stop OutOfRange 2
-  pub no-such-end : designOf (1 ∷ 10 ∷ 1 ∷ 1 ∷ 0 ∷ 0 ∷ 1 ∷ 0 ∷ 1 ∷ []) ≡ stop OutOfRange 8
+  pub no-parts : designOf A (1 ∷ 10 ∷ 0 ∷ []) ≡ stop OutOfRange 2
+  pub no-such-end : designOf A (1 ∷ 10 ∷ 1 ∷ 1 ∷ 0 ∷ 0 ∷ 1 ∷ 0 ∷ 1 ∷ []) ≡ stop OutOfRange 8
+  -- "Every other field keeps its own range": 2,097,152 for a deadline; 20,000,001 for a power
+  pub four-groups-of-ticks : designOf A (1 ∷ 128 ∷ 128 ∷ 128 ∷ 1 ∷ []) ≡ stop OutOfRange 1
+  pub power-past-its-range : designOf A (1 ∷ 10 ∷ 1 ∷ 1 ∷ 129 ∷ 218 ∷ 196 ∷ 9 ∷ []) ≡ stop OutOfRange 4
   -- 5: "Two runs at equal saving give 5"; place: the second saving
-  pub equal-savings : designOf (1 ∷ 10 ∷ 1 ∷ 2 ∷ 100 ∷ 2 ∷ 2 ∷ 20 ∷ 1 ∷ 20 ∷ 0 ∷ []) ≡ stop SavingNotBelow 9
+  pub equal-savings : designOf A (1 ∷ 10 ∷ 1 ∷ 2 ∷ 100 ∷ 2 ∷ 2 ∷ 20 ∷ 1 ∷ 20 ∷ 0 ∷ []) ≡ stop SavingNotBelow 9
   -- 6: two ticks at 20 and a power of 39; place: the power
-  pub power-below : designOf (1 ∷ 10 ∷ 1 ∷ 2 ∷ 39 ∷ 1 ∷ 2 ∷ 20 ∷ 0 ∷ []) ≡ stop PowerBelowSavings 4
+  pub power-below : designOf A (1 ∷ 10 ∷ 1 ∷ 2 ∷ 39 ∷ 1 ∷ 2 ∷ 20 ∷ 0 ∷ []) ≡ stop PowerBelowSavings 4
   -- 7: a self-link; a link not above the one before; place: its from
-  pub self-link : designOf (1 ∷ 10 ∷ 1 ∷ 1 ∷ 0 ∷ 0 ∷ 1 ∷ 0 ∷ 0 ∷ []) ≡ stop LinkNotAbove 7
-  pub link-twice : designOf (1 ∷ 10 ∷ 2 ∷ 1 ∷ 0 ∷ 0 ∷ 1 ∷ 0 ∷ 0 ∷ 2 ∷ 0 ∷ 1 ∷ 0 ∷ 1 ∷ []) ≡ stop LinkNotAbove 12
+  pub self-link : designOf A (1 ∷ 10 ∷ 1 ∷ 1 ∷ 0 ∷ 0 ∷ 1 ∷ 0 ∷ 0 ∷ []) ≡ stop LinkNotAbove 7
+  pub link-twice : designOf A (1 ∷ 10 ∷ 2 ∷ 1 ∷ 0 ∷ 0 ∷ 1 ∷ 0 ∷ 0 ∷ 2 ∷ 0 ∷ 1 ∷ 0 ∷ 1 ∷ []) ≡ stop LinkNotAbove 12
   -- a fault in `to` wins over a `from` that is too low
-  pub to-first : designOf (1 ∷ 10 ∷ 2 ∷ 1 ∷ 0 ∷ 0 ∷ 1 ∷ 0 ∷ 0 ∷ 2 ∷ 1 ∷ 0 ∷ 0 ∷ 2 ∷ []) ≡ stop OutOfRange 13
+  pub to-first : designOf A (1 ∷ 10 ∷ 2 ∷ 1 ∷ 0 ∷ 0 ∷ 1 ∷ 0 ∷ 0 ∷ 2 ∷ 1 ∷ 0 ∷ 0 ∷ 2 ∷ []) ≡ stop OutOfRange 13
   -- 8
-  pub bytes-after : designOf (1 ∷ 10 ∷ 1 ∷ 1 ∷ 0 ∷ 0 ∷ 0 ∷ 7 ∷ []) ≡ stop BytesAfter 7
+  pub bytes-after : designOf A (1 ∷ 10 ∷ 1 ∷ 1 ∷ 0 ∷ 0 ∷ 0 ∷ 7 ∷ []) ≡ stop BytesAfter 7
 
 pub faults : Faults
 unfolding designOf versionAt headFrom bodyFrom linkedFrom partsFrom partFrom linksFrom linkFrom wholeAt inPlace above belowOf blankCurves blankLinks blankCurve curveFrom runsFrom runFrom bare falls savingsOf lengthAt savingAt sum repeat and-then fieldAt rangedAt numberAt groupsFrom shortestEnd pick
 faults = record {
   cut-short = refl;
   not-shortest = refl;
+  three-groups-cut = refl;
+  fifth-promised = refl;
   wrong-version = refl;
   no-parts = refl;
   no-such-end = refl;
+  four-groups-of-ticks = refl;
+  power-past-its-range = refl;
   equal-savings = refl;
   power-below = refl;
   self-link = refl;

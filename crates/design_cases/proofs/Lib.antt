@@ -1,1 +1,2 @@
 pub mod FileCases
+pub mod LongestFile

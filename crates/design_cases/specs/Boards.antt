@@ -6,16 +6,17 @@ use lib.ListN.{replicate}
 use Rattle.curve.specs.declared.Run.{Run}
 use Rattle.curve.specs.declared.Curve.{Curve}
 use Rattle.curve.specs.Curve.{noRun}
+use Rattle.board.specs.declared.Rule.the-variants.{A}
 use Rattle.board.specs.declared.Link.{Link}
 use Rattle.board.specs.declared.Board.{Board}
-use Rattle.board.specs.Board.{noLink, blankCurve}
+use Rattle.board.specs.Board.{plainLink, noLink, blankCurve}
 
 -- a run as 01 writes it: length at saving
 abbrev pub run : ℕ → ℕ → Run
-run length saving = record { length = record { 0 = length }; saving = record { 0 = saving } }
+run ticks saving = record { length = record { 0 = ticks }; saving = record { 0 = saving } }
 
 abbrev pub link : ℕ → ℕ → Link
-link from to = record { from = from; to = to }
+link from to = plainLink from to
 
 -- a curve of one run and of two
 abbrev pub oneRun : ℕ → ℕ → Run → Curve
@@ -28,6 +29,7 @@ twoRuns fastest power a b = record { fastest = record { 0 = fastest }; power = r
 -- Part 3: 4; 40; 1 at 6, 1 at 2."
 unfoldable pub K : Board
 K = record {
+  rule = A;
   deadline = record { 0 = 10 };
   parts = 4;
   curve = twoRuns 2 100 (run 2 20) (run 1 5) ∷ oneRun 3 90 (run 3 12) ∷ oneRun 1 50 (run 2 12) ∷ twoRuns 4 40 (run 1 6) (run 1 2) ∷ replicate 60 blankCurve;
@@ -48,6 +50,7 @@ fileK =
 -- "Board D, deadline 3, links 0 to 1 and 0 to 2, all curves fastest 1, power 10, one run of 1; saving 5 for part 0, 3 for the others."
 unfoldable pub D : Board
 D = record {
+  rule = A;
   deadline = record { 0 = 3 };
   parts = 3;
   curve = oneRun 1 10 (run 1 5) ∷ oneRun 1 10 (run 1 3) ∷ oneRun 1 10 (run 1 3) ∷ replicate 61 blankCurve;

@@ -18,7 +18,7 @@ use Rattle.design.specs.Design.{designOf, fileOf}
 use Rattle.design.proofs.DesignLaws.{written-read}
 use Rattle.design_write.specs.Write.{bufferOf, FileCounted, FileWritten}
 
-pub buffer-read : (b : Board) (buf : List ℕ) → WellFormed b → length (fileOf b) ≤ length buf → designOf (take (length (fileOf b)) (bufferOf b buf)) ≡ got b (length (fileOf b))
+pub buffer-read : (b : Board) (buf : List ℕ) → WellFormed b → length (fileOf b) ≤ length buf → designOf (b .rule) (take (length (fileOf b)) (bufferOf b buf)) ≡ got b (length (fileOf b))
 unfolding bufferOf pick
 buffer-read b buf w room =
     rw (le-ltb (length buf) (length (fileOf b)) room, take-append-seam (fileOf b) (drop (length (fileOf b)) buf)) (written-read b w)

@@ -7,7 +7,7 @@ use lib.Dec.{ltb}
 use lib.ListN.{length, drop}
 use Rattle.base.specs.Pick.{pick}
 use Rattle.refusal.specs.declared.Why.{Why}
-use Rattle.refusal.specs.declared.Why.the-variants.{NoBoard, BufferShort}
+use Rattle.refusal.specs.Refusal.{refusal}
 use Rattle.refusal.specs.declared.Answer.{Answer}
 use Rattle.refusal.specs.declared.Answer.the-variants.{Done, Refused}
 use Rattle.board.specs.declared.Board.{Board}
@@ -16,7 +16,7 @@ use Rattle.design.specs.Design.{fileOf}
 
 -- 16: "buffer shorter than the file to write", place: "bytes needed"
 unfoldable pub writeOf : Board → List ℕ → Answer
-writeOf b buf = pick (ltb (length buf) (length (fileOf b))) (Refused BufferShort (length (fileOf b))) Done
+writeOf b buf = pick (ltb (length buf) (length (fileOf b))) (refusal 16 (length (fileOf b))) Done
 
 -- a refusal changes no buffer; "when accepted it leaves the buffer past the file as it was"
 unfoldable pub bufferOf : Board → List ℕ → List ℕ
@@ -30,5 +30,5 @@ pub record FileCounted (b : Board) (r : ℕ) : Type 0 where
 -- what is promised of a write, for any value: its answer, what the buffer then holds, and that a refusal leaves it as it was
 pub record FileWritten (b : Board) (buf : List ℕ) (r : Answer) (buf′ : List ℕ) : Type 0 where
   pub formed : WellFormed b → (r ≡ writeOf b buf) × (buf′ ≡ bufferOf b buf)
-  pub none : (WellFormed b → ⊥) → (r ≡ Refused NoBoard 0) × (buf′ ≡ buf)
+  pub none : (WellFormed b → ⊥) → (r ≡ refusal 11 0) × (buf′ ≡ buf)
   pub stays : (why : Why) (place : ℕ) → r ≡ Refused why place → buf′ ≡ buf

@@ -4,22 +4,23 @@ use board::Link;
 use refusal::Answer;
 use refusal::Why;
 ghost use mathlib.Core.Path.{_≡_};
-ghost use Prim.Native.Nat.{_≤_};
+ghost use Prim.Native.Nat.{_*_, _≤_};
 ghost use lib.ListN.{length};
+ghost use Rattle.groups.specs.Number.{groups};
 ghost use Rattle.fields.specs.Writing.{WroteIfRoom};
 ghost use Rattle.board.specs.Board.{WellFormed};
 ghost use Rattle.design.specs.Design.{linkBytes, partsBytes, linksBytes, linkedBytes, bodyBytes, headBytes, fileOf};
 ghost use Rattle.design_write.specs.Write.{FileCounted, FileWritten};
 
 fn link_size(link: Link) -> usize
-    ensures { λ r. ⌜ (r ≡ length (linkBytes link)) × (r ≤ 6) ⌝ }
+    ensures { λ r. ⌜ (r ≡ length (linkBytes link)) × (r ≤ 2 * groups) ⌝ }
 {
     fields::size(link.from) + fields::size(link.to)
 }
 
 fn links_size(b: Board) -> usize
     requires { ⌜ WellFormed b ⌝ }
-    ensures { λ r. ⌜ (r ≡ length (linksBytes b (b .links))) × (r ≤ 1536) ⌝ }
+    ensures { λ r. ⌜ (r ≡ length (linksBytes b (b .links))) × (r ≤ 512 * groups) ⌝ }
 {
     let links = b.links;
     let mut bytes: usize = 0;
@@ -34,7 +35,7 @@ fn links_size(b: Board) -> usize
 
 fn parts_size(b: Board) -> usize
     requires { ⌜ WellFormed b ⌝ }
-    ensures { λ r. ⌜ (r ≡ length (partsBytes b (b .parts))) × (r ≤ 2112) ⌝ }
+    ensures { λ r. ⌜ (r ≡ length (partsBytes b (b .parts))) × (r ≤ 704 * groups) ⌝ }
 {
     let parts = b.parts;
     let mut bytes: usize = 0;

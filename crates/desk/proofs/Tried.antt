@@ -12,8 +12,8 @@ use Rattle.refusal.specs.declared.Answer.{Answer}
 use Rattle.refusal.specs.declared.Answer.the-variants.{Done, Refused}
 use Rattle.curve.specs.declared.Curve.{Curve}
 use Rattle.board.specs.declared.Board.{Board}
-use Rattle.board.specs.Board.{Linked, WellFormed}
-use Rattle.edits.specs.Edits.{linkOf, hasLinkOf, withDeadlineOf, withCurveOf, withLinkOf, withoutLinkOf}
+use Rattle.board.specs.Board.{plainLink, Linked, WellFormed}
+use Rattle.edits.specs.Edits.{hasLinkOf, withDeadlineOf, withCurveOf, withLinkOf, withoutLinkOf}
 use Rattle.edits.specs.Changes.{Addable}
 use Rattle.edits.proofs.Places.{has-linked, linked-has, missing-false}
 use Rattle.edits.proofs.PlainEdits.{with-deadline-well, with-curve-well}

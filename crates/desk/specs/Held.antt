@@ -4,7 +4,7 @@ use mathlib.Core.Path.{_≡_}
 use mathlib.Core.Bool.{true, false}
 use Rattle.board.specs.declared.Board.{Board}
 use Rattle.board.specs.Board.{WellFormed}
-use Rattle.board.specs.Path.{LoopFree}
+use Rattle.board.specs.Leads.{LoopFree}
 use Rattle.budget.specs.declared.Budget.{Budget}
 use Rattle.budget.specs.Budget.{Holds}
 use Rattle.desk.specs.declared.Desk.{Desk}

@@ -1,5 +1,6 @@
 pub mod Held
 pub mod Empty
+pub mod Judged
 pub mod Load
 pub mod Order
 pub mod Write

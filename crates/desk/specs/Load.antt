@@ -3,9 +3,9 @@
 use mathlib.Core.Path.{_≡_}
 use mathlib.Core.List.{List, []}
 use Prim.Native.Nat.{ℕ}
-use Rattle.refusal.specs.declared.Why.{Why}
 use Rattle.refusal.specs.declared.Answer.{Answer}
 use Rattle.refusal.specs.declared.Answer.the-variants.{Done, Refused}
+use Rattle.board.specs.declared.Rule.the-variants.{A}
 use Rattle.board.specs.declared.Board.{Board}
 use Rattle.slow.specs.Walk.{trailOf}
 use Rattle.fields.specs.Parse.{Parse, got, stop}
@@ -13,8 +13,7 @@ use Rattle.design.specs.Design.{designOf}
 use Rattle.desk.specs.declared.Tally.{Tally}
 use Rattle.desk.specs.declared.Desk.{Desk}
 use Rattle.desk.specs.declared.Loaded.{Loaded}
-use Rattle.solver.specs.Verdict.{Verdict}
-use Rattle.desk.specs.Held.{Holding}
+use Rattle.desk.specs.Judged.{BoardJudged}
 
 -- "when accepted, sets both counts to zero"
 abbrev pub noTally : Tally
@@ -24,12 +23,14 @@ noTally = record { taken = 0; refused = 0 }
 abbrev pub loadRefused : Answer → List ℕ → Desk → Tally → Loaded
 loadRefused answer path d t = record { answer = answer; path = trailOf path; desk = d; tally = t }
 
+abbrev pub tallyLoaded : Answer → Tally → Tally
+tallyLoaded Done t = noTally
+tallyLoaded (Refused why place) t = t
+
 -- the file was read as the board b
-pub data LoadJudged (b : Board) (d : Desk) (t : Tally) (r : Loaded) : Type 0 where
-  refused : {why : Why} {place : ℕ} {path : List ℕ} → Verdict b (Refused why place) path → r ≡ loadRefused (Refused why place) path d t → LoadJudged b d t r
-  accepted :
-      Verdict b Done [] → r .answer ≡ Done → r .path ≡ trailOf [] → r .desk .board ≡ b → Holding (r .desk) → r .tally ≡ noTally →
-      LoadJudged b d t r
+pub record LoadJudged (b : Board) (d : Desk) (t : Tally) (r : Loaded) : Type 0 where
+  pub judged : BoardJudged b d (r .answer) (r .path) (r .desk)
+  pub tally : r .tally ≡ tallyLoaded (r .answer) t
 
 -- what a load of the bytes s comes to: the first of 1 to 8, or what the board described comes to
 abbrev pub LoadParsed : Parse Board → Desk → Tally → Loaded → Type 0
@@ -37,4 +38,4 @@ LoadParsed (stop why place) d t r = r ≡ loadRefused (Refused why place) [] d t
 LoadParsed (got b next) d t r = LoadJudged b d t r
 
 pub record LoadSaid (d : Desk) (s : List ℕ) (t : Tally) (r : Loaded) : Type 0 where
-  pub parsed : LoadParsed (designOf s) d t r
+  pub parsed : LoadParsed (designOf A s) d t r

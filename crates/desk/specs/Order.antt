@@ -2,38 +2,18 @@
 -- Assumes nothing.
 use mathlib.Core.Path.{_≡_}
 use mathlib.Core.Bool.{Bool, true, false}
-use mathlib.Core.List.{List, []}
+use mathlib.Core.List.{List, [], _∷_}
 use Prim.Native.Nat.{ℕ, _+_, _≤_}
 use lib.Dec.{ltb, leb, eqb}
 use Rattle.base.specs.Pick.{pick}
 use Rattle.refusal.specs.declared.Why.{Why}
-use Rattle.refusal.specs.declared.Why.the-variants.{
-  CutShort,
-  NotShortest,
-  WrongVersion,
-  OutOfRange,
-  SavingNotBelow,
-  PowerBelowSavings,
-  LinkNotAbove,
-  BytesAfter,
-  Looped,
-  TooSlow,
-  NoBoard,
-  UnknownKind,
-  LinkThere,
-  LinkMissing,
-  LinksFull,
-  BufferShort,
-  NoPart,
-  TallyFull,
-  OffCurve,
-  NoLabel,
-}
+use Rattle.refusal.specs.Refusal.{numberOf, refusal, among}
 use Rattle.refusal.specs.declared.Answer.{Answer}
 use Rattle.refusal.specs.declared.Answer.the-variants.{Done, Refused}
 use Rattle.curve.specs.declared.Curve.{Curve}
 use Rattle.board.specs.declared.Board.{Board}
-use Rattle.edits.specs.Edits.{linkOf, hasLinkOf, withDeadlineOf, withCurveOf, withLinkOf, withoutLinkOf}
+use Rattle.board.specs.Board.{plainLink}
+use Rattle.edits.specs.Edits.{hasLinkOf, withDeadlineOf, withCurveOf, withLinkOf, withoutLinkOf}
 use Rattle.slow.specs.Walk.{trailOf}
 use Rattle.fields.specs.Parse.{Parse, got, stop}
 use Rattle.orders.specs.declared.Change.{Change}
@@ -43,8 +23,8 @@ use Rattle.orders.specs.Order.{orderOf}
 use Rattle.desk.specs.declared.Tally.{Tally}
 use Rattle.desk.specs.declared.Desk.{Desk}
 use Rattle.desk.specs.declared.Ordered.{Ordered}
-use Rattle.solver.specs.Verdict.{Verdict}
-use Rattle.desk.specs.Held.{Holding, Standing}
+use Rattle.desk.specs.Held.{Standing}
+use Rattle.desk.specs.Judged.{BoardJudged}
 
 -- "exactly its one place changes": the board with the change made
 abbrev pub changeMade : Board → Change → Curve → Board
@@ -58,7 +38,7 @@ changedOf b o = changeMade b (o .change) (o .curve)
 
 -- 17: "no such part on the board", place: "the part asked for"; else what comes next
 abbrev pub withPart : Board → ℕ → Answer → Answer
-withPart b p next = pick (ltb p (b .parts)) next (Refused NoPart p)
+withPart b p next = pick (ltb p (b .parts)) next (refusal 17 p)
 
 -- "17 (from before to), then for a link to add 7, 13, 15, 9; for one to remove 14": all but 9, which is judged with 10
 abbrev pub placeTried : Board → Change → Answer
@@ -67,41 +47,25 @@ placeTried b (AddLink from to) =
     withPart b from
     (withPart b to
     (pick (eqb from to)
-    (Refused LinkNotAbove 0)
-    (pick (hasLinkOf b (linkOf from to)) (Refused LinkThere 0) (pick (leb 256 (b .links)) (Refused LinksFull 0) Done))))
+    (refusal 7 0)
+    (pick (hasLinkOf b (plainLink from to)) (refusal 13 0) (pick (leb 256 (b .links)) (refusal 15 0) Done))))
 placeTried b (RemoveLink from to) =
-    withPart b from (withPart b to (pick (hasLinkOf b (linkOf from to)) Done (Refused LinkMissing 0)))
+    withPart b from (withPart b to (pick (hasLinkOf b (plainLink from to)) Done (refusal 14 0)))
 placeTried b (NewCurve part) = withPart b part Done
 
 -- "and then tried: 11, 18, 17 .."; 18: "tally's sum is 65,535 or more"
 unfoldable pub triedOf : Desk → Tally → Order → Answer
 triedOf d t o =
     pick (d .held)
-    (pick (leb 65535 (t .taken + t .refused)) (Refused TallyFull 0) (placeTried (d .board) (o .change)))
-    (Refused NoBoard 0)
+    (pick (leb 65535 (t .taken + t .refused)) (refusal 18 0) (placeTried (d .board) (o .change)))
+    (refusal 11 0)
 
 -- "the tally counts an order refused by 7, 9, 10, 13, 14, 15 or 17"
+abbrev pub counted : ℕ → Bool
+counted number = among number (7 ∷ 9 ∷ 10 ∷ 13 ∷ 14 ∷ 15 ∷ 17 ∷ [])
+
 abbrev pub counts : Why → Bool
-counts CutShort = false
-counts NotShortest = false
-counts WrongVersion = false
-counts OutOfRange = false
-counts SavingNotBelow = false
-counts PowerBelowSavings = false
-counts LinkNotAbove = true
-counts BytesAfter = false
-counts Looped = true
-counts TooSlow = true
-counts NoBoard = false
-counts UnknownKind = false
-counts LinkThere = true
-counts LinkMissing = true
-counts LinksFull = true
-counts BufferShort = false
-counts NoPart = true
-counts TallyFull = false
-counts OffCurve = false
-counts NoLabel = false
+counts why = counted (numberOf why)
 
 abbrev pub oneTaken : Tally → Tally
 oneTaken t = record { taken = t .taken + 1; refused = t .refused }
@@ -111,6 +75,10 @@ oneRefused t = record { taken = t .taken; refused = t .refused + 1 }
 
 unfoldable pub refusedTally : Why → Tally → Tally
 refusedTally why t = pick (counts why) (oneRefused t) t
+
+abbrev pub tallyOrdered : Answer → Tally → Tally
+tallyOrdered Done t = oneTaken t
+tallyOrdered (Refused why place) t = refusedTally why t
 
 -- a refused order changes the tally at most
 abbrev pub orderRefused : Why → ℕ → ℕ → List ℕ → Desk → Tally → Ordered
@@ -123,13 +91,10 @@ orderRefused why place took path d t = record {
 }
 
 -- the order was read, and no refusal but 9 and 10 is left: what the board as it would be comes to
-pub data OrderJudged (b : Board) (d : Desk) (t : Tally) (took : ℕ) (r : Ordered) : Type 0 where
-  refused :
-      {why : Why} {place : ℕ} {path : List ℕ} → Verdict b (Refused why place) path → r ≡ orderRefused why place took path d t →
-      OrderJudged b d t took r
-  made :
-      Verdict b Done [] → r .answer ≡ Done → r .took ≡ took → r .path ≡ trailOf [] → r .desk .board ≡ b → Holding (r .desk) →
-      r .tally ≡ oneTaken t → OrderJudged b d t took r
+pub record OrderJudged (b : Board) (d : Desk) (t : Tally) (took : ℕ) (r : Ordered) : Type 0 where
+  pub judged : BoardJudged b d (r .answer) (r .path) (r .desk)
+  pub took-is : r .took ≡ took
+  pub tally : r .tally ≡ tallyOrdered (r .answer) t
 
 abbrev pub OrderTried : Answer → Desk → Tally → Order → ℕ → Ordered → Type 0
 OrderTried (Refused why place) d t o took r = r ≡ orderRefused why place took [] d t

@@ -5,7 +5,7 @@ use mathlib.Core.List.{List}
 use Prim.Native.Nat.{ℕ}
 use Rattle.base.specs.Pick.{pick}
 use Rattle.refusal.specs.declared.Why.{Why}
-use Rattle.refusal.specs.declared.Why.the-variants.{NoBoard}
+use Rattle.refusal.specs.Refusal.{refusal}
 use Rattle.refusal.specs.declared.Answer.{Answer}
 use Rattle.refusal.specs.declared.Answer.the-variants.{Refused}
 use Rattle.design_write.specs.Write.{writeOf, bufferOf}
@@ -14,7 +14,7 @@ use Rattle.desk.specs.Held.{Standing}
 
 -- 11 where no board is held; else 16, or the file of the board
 unfoldable pub writtenOf : Desk → List ℕ → Answer
-writtenOf d buf = pick (d .held) (writeOf (d .board) buf) (Refused NoBoard 0)
+writtenOf d buf = pick (d .held) (writeOf (d .board) buf) (refusal 11 0)
 
 -- what the buffer then holds
 unfoldable pub afterWrite : Desk → List ℕ → List ℕ

@@ -2,6 +2,4 @@ pub mod Ways
 pub mod Places
 pub mod LinkEdits
 pub mod PlainEdits
-pub mod ViewLaws
-pub mod Filling
 pub mod Commute

@@ -9,11 +9,11 @@ use lib.ListN.{List·getD-eq-default}
 use Rattle.base.proofs.Cases.{lt-or-le, eq-or-ne}
 use Rattle.board.specs.declared.Link.{Link}
 use Rattle.board.specs.declared.Board.{Board}
-use Rattle.board.specs.Board.{WellFormed, Linked, linkAt, noLink, order}
-use Rattle.board.proofs.LinkLaws.{order-same}
-use Rattle.board.proofs.Ascending.{Parted, rises, rises-le}
+use Rattle.board.specs.Board.{WellFormed, Linked, Has, plainLink, linkAt, noLink, delayOf, order}
+use Rattle.board.proofs.LinkLaws.{order-ends}
+use Rattle.board.proofs.Ascending.{Parted, rises}
 use Rattle.board.proofs.SameBoard.{orders, to-below}
-use Rattle.edits.specs.Edits.{linkOf, placeOf, insertedOf, removedOf, withLinkOf, withoutLinkOf}
+use Rattle.edits.specs.Edits.{placeOf, insertedOf, removedOf, withLinkOf, withoutLinkOf}
 use Rattle.edits.specs.Changes.{Ends, Addable, LinkAdded, LinkRemoved}
 use Rattle.edits.proofs.Ways.{linked, link-added, link-removed}
 use Rattle.edits.proofs.Places.{place-parts, missing-false, linked-place, linked-has, inserted-length, inserted-below, inserted-here, inserted-above, removed-length, removed-below, removed-above}
@@ -21,7 +21,7 @@ use Rattle.edits.proofs.Places.{place-parts, missing-false, linked-plac
 -- ---- a link more
 module _ (b : Board) (w : WellFormed b) (from to : ℕ) (may : Addable b from to) where
   abbrev x : Link
-  x = linkOf from to
+  x = plainLink from to
 
   abbrev at : ℕ
   at = placeOf b x
@@ -59,8 +59,8 @@ module _ (b : Board) (w : WellFormed b) (from to : ℕ) (may : Addable b from to
   strict : at < b .links → order x < orders b at
   strict h = ⊎-elim
       (λ (e : order x ≡ orders b at).
-      let same : linkAt b at ≡ x = order-same (linkAt b at) x (to-below b w at h) small (sym e) in
-      absurd (may .missing (record { link = at; here = h; from = ap (λ (l : Link). l .from) same; to = ap (λ (l : Link). l .to) same })))
+      let same = order-ends (linkAt b at) x (to-below b w at h) small (sym e) in
+      absurd (may .missing (record { link = at; here = h; from = same .0; to = same .1 })))
       (λ (e : order x ≡ orders b at → ⊥). omega (arith, parts-at .above at (omega arith) h))
       (eq-or-ne (order x) (orders b at))
 
@@ -84,6 +84,10 @@ module _ (b : Board) (w : WellFormed b) (from to : ℕ) (may : Addable b from to
   blank zero h r = absurd (omega arith)
   blank (suc l) h r = above l r (omega (arith, parts-at .under)) ∙ w .blank-links l (omega arith) (omega arith)
 
+  plain-new : delayOf x ≡ 0
+  unfolding delayOf
+  plain-new = refl
+
   after-well : WellFormed after
   after-well = record {
     deadline-from = w .deadline-from;
@@ -95,6 +99,7 @@ module _ (b : Board) (w : WellFormed b) (from to : ℕ) (may : Addable b from to
     from-in = each (λ l. l .from < b .parts) (may .from-in) (w .from-in);
     to-in = each (λ l. l .to < b .parts) (may .to-in) (w .to-in);
     apart = each (λ l. l .from ≢ l .to) (may .apart) (w .apart);
+    plain = each (λ l. delayOf l ≡ 0) plain-new (w .plain);
     ascends = ascends;
     blank-curves = w .blank-curves;
     blank-links = blank;
@@ -102,32 +107,28 @@ module _ (b : Board) (w : WellFormed b) (from to : ℕ) (may : Addable b from to
     link-room = inserted-length (b .link) (w .link-room) at x;
   }
 
-  after-kept : (p q : ℕ) → Linked b p q → Linked after p q
-  after-kept p q k = ⊎-elim
-      (λ (s : k .link < at). let e = below (k .link) s in record { link = k .link; here = omega (arith, k .here); from = rw e (k .from); to = rw e (k .to) })
-      (λ (s : at ≤ k .link).
-      let e = above (k .link) (omega (arith, k .here, may .room)) s in
-      record { link = suc (k .link); here = omega (arith, k .here); from = rw e (k .from); to = rw e (k .to) })
-      (lt-or-le (k .link) at)
+  after-kept : (y : Link) → Has b y → Has after y
+  after-kept y k = ⊎-elim
+      (λ (s : k .at < at). record { at = k .at; here = omega (arith, k .here); is = below (k .at) s ∙ k .is })
+      (λ (s : at ≤ k .at). record { at = suc (k .at); here = omega (arith, k .here); is = above (k .at) (omega (arith, k .here, may .room)) s ∙ k .is })
+      (lt-or-le (k .at) at)
 
-  after-only : (p q : ℕ) → Linked after p q → Linked b p q ⊎ Ends p q from to
-  after-only p q k =
-      each (λ l. l .from ≡ p → l .to ≡ q → Linked b p q ⊎ Ends p q from to)
-      (λ f t. inr (record { starts = sym f; ends = sym t }))
-      (λ l h f t. inl (record { link = l; here = h; from = f; to = t }))
-      (k .link) (k .here) (k .from) (k .to)
+  after-only : (y : Link) → Has after y → Has b y ⊎ (y ≡ x)
+  after-only y k =
+      each (λ l. l ≡ y → Has b y ⊎ (y ≡ x)) (λ e. inr (sym e)) (λ l h e. inl (record { at = l; here = h; is = e }))
+      (k .at) (k .here) (k .is)
 
   after-added : LinkAdded b after from to
   after-added = record {
-    rest = record { deadline = refl; parts = refl; curve = refl };
+    rest = record { rule = refl; deadline = refl; parts = refl; curve = refl };
     count = refl;
-    new = record { link = at; here = omega (arith, parts-at .under); from = ap (λ (l : Link). l .from) here; to = ap (λ (l : Link). l .to) here };
+    new = record { at = at; here = omega (arith, parts-at .under); is = here };
     kept = after-kept;
     only = after-only;
   }
 
   is-after : after ≡ withLinkOf b from to
-  is-after = link-added b from to false (sym (missing-false b from to (may .missing))) at (insertedOf (b .link) at x) (may .room) refl refl refl
+  is-after = link-added b from to false (sym (missing-false b from to (may .missing))) x at (insertedOf (b .link) at x) refl (may .room) refl refl refl
 
   -- a board with one link more is well formed, and has exactly that one more
   pub with-link-well : WellFormed (withLinkOf b from to)
@@ -136,36 +137,10 @@ module _ (b : Board) (w : WellFormed b) (from to : ℕ) (may : Addable b from to
   pub with-link-added : LinkAdded b (withLinkOf b from to) from to
   with-link-added = subst (λ (c : Board). LinkAdded b c from to) is-after after-added
 
--- ---- a link above all others comes last
-module _ (b : Board) (w : WellFormed b) (from to : ℕ) (top : (l : ℕ) → l < b .links → orders b l < order (linkOf from to)) where
-  pub top-missing : Linked b from to → ⊥
-  top-missing k = omega (arith, top (k .link) (k .here), k .from, k .to)
-
-  module _ (may : Addable b from to) where
-    last : placeOf b (linkOf from to) ≡ b .links
-    last =
-        let p = parts-at b w from to may in
-        ⊎-elim
-        (λ (h : placeOf b (linkOf from to) < b .links). absurd (omega (arith, p .above (placeOf b (linkOf from to)) (omega arith) h, top (placeOf b (linkOf from to)) h)))
-        (λ (h : b .links ≤ placeOf b (linkOf from to)). omega (arith, p .under))
-        (lt-or-le (placeOf b (linkOf from to)) (b .links))
-
-    pub top-kept : (l : ℕ) → l < b .links → linkAt (withLinkOf b from to) l ≡ linkAt b l
-    top-kept l h = subst (λ (c : Board). linkAt c l ≡ linkAt b l) (is-after b w from to may) (below b w from to may l (omega (arith, last)))
-
-    pub top-last : linkAt (withLinkOf b from to) (b .links) ≡ linkOf from to
-    top-last =
-        subst (λ (c : Board). linkAt c (b .links) ≡ linkOf from to) (is-after b w from to may)
-        (subst (λ (k : ℕ). linkAt (after b w from to may) k ≡ linkOf from to) last (here b w from to may))
-
--- what stands above the last link stands above all
-pub above-last : (b : Board) → WellFormed b → (m v : ℕ) → b .links ≡ suc m → orders b m < v → (l : ℕ) → l < b .links → orders b l < v
-above-last b w m v e h l s = omega (arith, rises-le (b .links) (orders b) (w .ascends) l m (omega arith) (omega arith))
-
 -- ---- a link less
 module _ (b : Board) (w : WellFormed b) (from to : ℕ) (there : Linked b from to) where
   abbrev out : ℕ
-  out = placeOf b (linkOf from to)
+  out = placeOf b (plainLink from to)
 
   abbrev left : Board
   left = linked b (b .links - 1) (removedOf (b .link) out)
@@ -221,6 +196,7 @@ module _ (b : Board) (w : WellFormed b) (from to : ℕ) (there : Linked b from t
     from-in = each-left (λ l. l .from < b .parts) (w .from-in);
     to-in = each-left (λ l. l .to < b .parts) (w .to-in);
     apart = each-left (λ l. l .from ≢ l .to) (w .apart);
+    plain = each-left (λ l. delayOf l ≡ 0) (w .plain);
     ascends = left-ascends;
     blank-curves = w .blank-curves;
     blank-links = left-blank;
@@ -236,30 +212,28 @@ module _ (b : Board) (w : WellFormed b) (from to : ℕ) (there : Linked b from t
       let t = ap (λ (l : Link). l .to) (c .is) in
       c .other (sym (linked-place b w from to (record { link = c .at; here = c .here; from = sym f ∙ k .from; to = sym t ∙ k .to })))
 
-  left-only : (p q : ℕ) → Linked left p q → Linked b p q
-  left-only p q k =
-      each-left (λ l. l .from ≡ p → l .to ≡ q → Linked b p q) (λ l h f t. record { link = l; here = h; from = f; to = t })
-      (k .link) (k .here) (k .from) (k .to)
+  left-only : (y : Link) → Has left y → Has b y
+  left-only y k = let c = came (k .at) (k .here) in record { at = c .at; here = c .here; is = sym (c .is) ∙ k .is }
 
-  left-kept : (p q : ℕ) → Linked b p q → (Ends p q from to → ⊥) → Linked left p q
-  left-kept p q k ne = ⊎-elim
-      (λ (s : k .link < out). let e = before (k .link) s in record { link = k .link; here = omega (arith, out-is, there .here); from = rw e (k .from); to = rw e (k .to) })
-      (λ (s : out ≤ k .link). later (k .link) (k .here) (k .from) (k .to) s)
-      (lt-or-le (k .link) out)
+  left-kept : (y : Link) → Has b y → (Ends y from to → ⊥) → Has left y
+  left-kept y k ne = ⊎-elim
+      (λ (s : k .at < out). record { at = k .at; here = omega (arith, out-is, there .here); is = before (k .at) s ∙ k .is })
+      (λ (s : out ≤ k .at). later (k .at) (k .here) (k .is) s)
+      (lt-or-le (k .at) out)
     where
-      same : (l : ℕ) → l ≡ there .link → linkAt b l .from ≡ p → linkAt b l .to ≡ q → Ends p q from to
-      same l e f t = record { starts = sym f ∙ rw e (there .from); ends = sym t ∙ rw e (there .to) }
+      same : (l : ℕ) → l ≡ there .link → linkAt b l ≡ y → Ends y from to
+      same l e is = record { starts = rw (← is, e) (there .from); ends = rw (← is, e) (there .to) }
 
-      later : (l : ℕ) → l < b .links → linkAt b l .from ≡ p → linkAt b l .to ≡ q → out ≤ l → Linked left p q
-      later zero h f t s = absurd (ne (same zero (omega (arith, out-is)) f t))
-      later (suc l) h f t s = ⊎-elim
-          (λ (r : l < out). absurd (ne (same (suc l) (omega (arith, out-is)) f t)))
-          (λ (r : out ≤ l). let e = beyond l (omega (arith, w .links-to)) r in record { link = l; here = omega arith; from = rw e f; to = rw e t })
+      later : (l : ℕ) → l < b .links → linkAt b l ≡ y → out ≤ l → Has left y
+      later zero h is s = absurd (ne (same zero (omega (arith, out-is)) is))
+      later (suc l) h is s = ⊎-elim
+          (λ (r : l < out). absurd (ne (same (suc l) (omega (arith, out-is)) is)))
+          (λ (r : out ≤ l). record { at = l; here = omega arith; is = beyond l (omega (arith, w .links-to)) r ∙ is })
           (lt-or-le l out)
 
   left-removed : LinkRemoved b left from to
   left-removed = record {
-    rest = record { deadline = refl; parts = refl; curve = refl };
+    rest = record { rule = refl; deadline = refl; parts = refl; curve = refl };
     count = omega (arith, there .here);
     gone = left-gone;
     kept = left-kept;
@@ -267,7 +241,7 @@ module _ (b : Board) (w : WellFormed b) (from to : ℕ) (there : Linked b from t
   }
 
   is-left : left ≡ withoutLinkOf b from to
-  is-left = link-removed b from to true (sym (linked-has b w from to there)) out (removedOf (b .link) out) refl refl refl
+  is-left = link-removed b from to true (sym (linked-has b w from to there)) (plainLink from to) out (removedOf (b .link) out) refl refl refl refl
 
   -- a board with one link less is well formed, and has exactly that one less
   pub without-link-well : WellFormed (withoutLinkOf b from to)

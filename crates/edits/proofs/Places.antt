@@ -1,8 +1,8 @@
--- Where a link stands: the place that is counted parts the links into those before it and the others, so a board has a link exactly where it
--- stands at its place. And what a row filled place by place holds.
+-- Where a link stands: the place that is counted parts the links into those before it and the others, and a link that is there stands at its
+-- place. And what a row filled place by place holds.
 -- Assumes nothing.
-use mathlib.Core.Path.{_≡_, refl, _∙_}
-use mathlib.Core.Logic.{⊎-elim}
+use mathlib.Core.Path.{_≡_, refl, sym, _∙_}
+use mathlib.Core.Logic.{_⊎_, inl, inr, ⊎-elim}
 use mathlib.Core.Bool.{Bool, true, false}
 use mathlib.Core.List.{List}
 use Prim.Native.Nat.{ℕ, zero, suc, _-_, _≤_, _<_}
@@ -16,12 +16,13 @@ use Rattle.base.specs.Pick.{pick}
 use Rattle.base.proofs.Cases.{lt-or-le}
 use Rattle.board.specs.declared.Link.{Link}
 use Rattle.board.specs.declared.Board.{Board}
-use Rattle.board.specs.Board.{WellFormed, Linked, linkAt, noLink, order}
+use Rattle.board.specs.Board.{WellFormed, Linked, plainLink, linkAt, noLink, order}
 use Rattle.board.specs.Tests.{Decides, belowOf}
-use Rattle.board.proofs.LinkLaws.{below-one, below-none, both-hold}
+use Rattle.board.proofs.LinkLaws.{clash, below-one, below-none, both-hold}
 use Rattle.board.proofs.Ascending.{Parted, parted, rises}
 use Rattle.board.proofs.SameBoard.{orders, to-below}
-use Rattle.edits.specs.Edits.{linkOf, countBefore, placeOf, hasLinkOf, filled, insertedAt, insertedOf, removedAt, removedOf}
+use Rattle.edits.specs.Edits.{countBefore, placeOf, some, sameEnds, hasLinkOf, filled, insertedAt, insertedOf, removedAt, removedOf}
+use Rattle.edits.proofs.Ways.{endsAt, link-found}
 
 not-so : (t : Bool) → (t ≡ true → ⊥) → t ≡ false
 not-so true h = absurd (h refl)
@@ -47,30 +48,51 @@ module _ (b : Board) (w : WellFormed b) (x : Link) (small : x .to < 64) where
       (λ (s : l ≤ placeOf b x). omega arith)
       (lt-or-le (placeOf b x) l)
 
--- ---- a board has a link exactly where it stands at its place
-pub has-linked : (b : Board) (from to : ℕ) → hasLinkOf b (linkOf from to) ≡ true → Linked b from to
-unfolding hasLinkOf
+-- ---- a board has a link exactly where some link has its ends
+record Found (n : ℕ) (p : ℕ → Bool) : Type 0 where
+  at : ℕ
+  here : at < n
+  passes : p at ≡ true
+
+either-one : (t u : Bool) → pick t true u ≡ true → (t ≡ true) ⊎ (u ≡ true)
+unfolding pick
+either-one true u e = inl refl
+either-one false u e = inr e
+
+some-found : (n : ℕ) (p : ℕ → Bool) → some n p ≡ true → Found n p
+unfolding some
+some-found zero p e = clash e
+some-found (suc n) p e = ⊎-elim
+    (λ (h : p n ≡ true). record { at = n; here = omega arith; passes = h })
+    (λ (h : some n p ≡ true). let f = some-found n p h in record { at = f .at; here = omega (arith, f .here); passes = f .passes })
+    (either-one (p n) (some n p) e)
+
+pub has-linked : (b : Board) (from to : ℕ) → hasLinkOf b (plainLink from to) ≡ true → Linked b from to
+unfolding hasLinkOf sameEnds
 has-linked b from to e =
-    let t = both-hold _ _ e in
-    let u = both-hold _ _ (t .1) in
-    record { link = placeOf b (linkOf from to); here = ltb-true _ _ (t .0); from = eqb-true _ _ (u .0); to = eqb-true _ _ (u .1) }
+    let f = some-found (b .links) (λ l. sameEnds (linkAt b l) (plainLink from to)) (both-hold _ _ e .1) in
+    let ends = both-hold _ _ (f .passes) in
+    record { link = f .at; here = f .here; from = eqb-true _ _ (ends .0); to = eqb-true _ _ (ends .1) }
 
 module _ (b : Board) (w : WellFormed b) (from to : ℕ) (k : Linked b from to) where
   pub ends-small : to < 64
   ends-small = omega (arith, to-below b w (k .link) (k .here), k .to)
 
-  pub linked-place : placeOf b (linkOf from to) ≡ k .link
-  linked-place = place-is b w (linkOf from to) ends-small (k .link) (k .here) (omega (arith, k .from, k .to))
+  pub linked-place : placeOf b (plainLink from to) ≡ k .link
+  linked-place = place-is b w (plainLink from to) ends-small (k .link) (k .here) (omega (arith, k .from, k .to))
 
-  pub linked-has : hasLinkOf b (linkOf from to) ≡ true
-  unfolding hasLinkOf pick
-  linked-has = rw (linked-place, lt-ltb _ _ (k .here), eq-eqb _ _ (k .from), eq-eqb _ _ (k .to))
+  linked-ends : endsAt b from to (k .link) ≡ true
+  unfolding sameEnds pick
+  linked-ends = rw (eq-eqb _ _ (k .from), eq-eqb _ _ (k .to))
 
-pub has-link-decides : (b : Board) → WellFormed b → (from to : ℕ) → Decides (hasLinkOf b (linkOf from to)) (Linked b from to)
+  pub linked-has : hasLinkOf b (plainLink from to) ≡ true
+  linked-has = sym (link-found b from to (k .link) true (w .links-to) (k .here) (sym linked-ends) refl)
+
+pub has-link-decides : (b : Board) → WellFormed b → (from to : ℕ) → Decides (hasLinkOf b (plainLink from to)) (Linked b from to)
 has-link-decides b w from to = record { yes = has-linked b from to; no = linked-has b w from to }
 
-pub missing-false : (b : Board) (from to : ℕ) → (Linked b from to → ⊥) → hasLinkOf b (linkOf from to) ≡ false
-missing-false b from to none = not-so (hasLinkOf b (linkOf from to)) (λ e. none (has-linked b from to e))
+pub missing-false : (b : Board) (from to : ℕ) → (Linked b from to → ⊥) → hasLinkOf b (plainLink from to) ≡ false
+missing-false b from to none = not-so (hasLinkOf b (plainLink from to)) (λ e. none (has-linked b from to e))
 
 -- ---- rows
 module _ (old : List Link) (f : ℕ → Link) where

@@ -30,6 +30,7 @@ module _ (b : Board) (w : WellFormed b) (d : Ticks) where
     from-in = w .from-in;
     to-in = w .to-in;
     apart = w .apart;
+    plain = w .plain;
     ascends = w .ascends;
     blank-curves = w .blank-curves;
     blank-links = w .blank-links;
@@ -39,7 +40,7 @@ module _ (b : Board) (w : WellFormed b) (d : Ticks) where
 
 pub with-deadline-changed : (b : Board) (d : Ticks) → DeadlineChanged b (withDeadlineOf b d) d
 unfolding withDeadlineOf
-with-deadline-changed b d = record { deadline = refl; parts = refl; curve = refl; links = refl; link = refl }
+with-deadline-changed b d = record { rule = refl; deadline = refl; parts = refl; curve = refl; links = refl; link = refl }
 
 -- ---- a curve at its place
 module _ (b : Board) (p : ℕ) (c : Curve) (part : p < b .parts) (few : b .parts ≤ 64) (long : length (b .curve) ≡ 64) where
@@ -59,6 +60,7 @@ module _ (b : Board) (w : WellFormed b) (p : ℕ) (c : Curve) (part : p < b .par
   pub with-curve-changed : CurveChanged b (withCurveOf b p c) p c
   unfolding withCurveOf
   with-curve-changed = record {
+    rule = refl;
     deadline = refl;
     parts = refl;
     here = curve-here b p c part (w .parts-to) (w .curve-room);
@@ -85,6 +87,7 @@ module _ (b : Board) (w : WellFormed b) (p : ℕ) (c : Curve) (part : p < b .par
     from-in = w .from-in;
     to-in = w .to-in;
     apart = w .apart;
+    plain = w .plain;
     ascends = w .ascends;
     blank-curves = λ q h r. with-curve-changed .elsewhere q (λ e. omega arith) ∙ w .blank-curves q h r;
     blank-links = w .blank-links;

@@ -1,7 +1,7 @@
 -- 01, Files: "1: deadline. 2: from, to, a link to add. 3: from, to, a link to remove. 4: part, then a whole new curve." What a board is after each.
 -- The subtle point: links stay in ascending order, so a link is put in at its place and not at the end (proofs/LinkEdits says what changed).
 -- Assumes nothing.
-use mathlib.Core.Bool.{Bool, false, not}
+use mathlib.Core.Bool.{Bool, true, false, not}
 use mathlib.Core.List.{List}
 use Prim.Native.Nat.{ℕ, zero, suc, _+_, _-_}
 use lib.Dec.{ltb, leb, eqb}
@@ -12,11 +12,8 @@ use Rattle.curve.specs.declared.Ticks.{Ticks}
 use Rattle.curve.specs.declared.Curve.{Curve}
 use Rattle.board.specs.declared.Link.{Link}
 use Rattle.board.specs.declared.Board.{Board}
-use Rattle.board.specs.Board.{linkAt, noLink}
+use Rattle.board.specs.Board.{plainLink, linkAt, noLink}
 use Rattle.board.specs.Tests.{belowOf}
-
-abbrev pub linkOf : ℕ → ℕ → Link
-linkOf from to = record { from = from; to = to }
 
 -- how many of the first n links stand before x
 unfoldable pub countBefore : Board → Link → ℕ → ℕ
@@ -26,12 +23,17 @@ countBefore b x n = sum n (λ l. belowOf (linkAt b l) x)
 unfoldable pub placeOf : Board → Link → ℕ
 placeOf b x = pick (leb (b .links) 256) (countBefore b x (b .links)) 0
 
--- x stands at its place
+-- a test passes at some number below n
+unfoldable pub some : ℕ → (ℕ → Bool) → Bool
+some zero p = false
+some (suc n) p = pick (p n) true (some n p)
+
+unfoldable pub sameEnds : Link → Link → Bool
+sameEnds a x = pick (eqb (a .from) (x .from)) (eqb (a .to) (x .to)) false
+
+-- a link is there: some link has these ends
 unfoldable pub hasLinkOf : Board → Link → Bool
-hasLinkOf b x =
-    pick (ltb (placeOf b x) (b .links))
-    (pick (eqb (linkAt b (placeOf b x) .from) (x .from)) (eqb (linkAt b (placeOf b x) .to) (x .to)) false)
-    false
+hasLinkOf b x = pick (leb (b .links) 256) (some (b .links) (λ l. sameEnds (linkAt b l) x)) false
 
 -- a row whose first n places hold f of their number, and the others what they held
 unfoldable pub filled : List Link → (ℕ → Link) → ℕ → List Link
@@ -58,11 +60,12 @@ addable b x = pick (ltb (b .links) 256) (not (hasLinkOf b x)) false
 
 -- "1: deadline"
 unfoldable pub withDeadlineOf : Board → Ticks → Board
-withDeadlineOf b d = record { deadline = d; parts = b .parts; curve = b .curve; links = b .links; link = b .link }
+withDeadlineOf b d = record { rule = b .rule; deadline = d; parts = b .parts; curve = b .curve; links = b .links; link = b .link }
 
 -- "4: part, then a whole new curve"
 unfoldable pub withCurveOf : Board → ℕ → Curve → Board
 withCurveOf b p c = record {
+  rule = b .rule;
   deadline = b .deadline;
   parts = b .parts;
   curve = pick (ltb p (b .parts)) (set (b .curve) p c) (b .curve);
@@ -70,22 +73,24 @@ withCurveOf b p c = record {
   link = b .link;
 }
 
--- "2: from, to, a link to add"
+-- "2: from, to, a link to add", without a delay
 unfoldable pub withLinkOf : Board → ℕ → ℕ → Board
 withLinkOf b from to = record {
+  rule = b .rule;
   deadline = b .deadline;
   parts = b .parts;
   curve = b .curve;
-  links = pick (addable b (linkOf from to)) (b .links + 1) (b .links);
-  link = pick (addable b (linkOf from to)) (insertedOf (b .link) (placeOf b (linkOf from to)) (linkOf from to)) (b .link);
+  links = pick (addable b (plainLink from to)) (b .links + 1) (b .links);
+  link = pick (addable b (plainLink from to)) (insertedOf (b .link) (placeOf b (plainLink from to)) (plainLink from to)) (b .link);
 }
 
 -- "3: from, to, a link to remove"
 unfoldable pub withoutLinkOf : Board → ℕ → ℕ → Board
 withoutLinkOf b from to = record {
+  rule = b .rule;
   deadline = b .deadline;
   parts = b .parts;
   curve = b .curve;
-  links = pick (hasLinkOf b (linkOf from to)) (b .links - 1) (b .links);
-  link = pick (hasLinkOf b (linkOf from to)) (removedOf (b .link) (placeOf b (linkOf from to))) (b .link);
+  links = pick (hasLinkOf b (plainLink from to)) (b .links - 1) (b .links);
+  link = pick (hasLinkOf b (plainLink from to)) (removedOf (b .link) (placeOf b (plainLink from to))) (b .link);
 }

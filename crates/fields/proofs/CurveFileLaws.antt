@@ -9,12 +9,12 @@ use lib.ListN.{length, length-append}
 use borrow.Author.Tests.{leb-true, le-leb, lt-leb}
 use Rattle.base.specs.Pick.{pick}
 use Rattle.base.proofs.Cases.{lt-or-le}
-use Rattle.groups.specs.Number.{encode}
+use Rattle.groups.specs.Number.{groups, encode}
 use Rattle.groups.proofs.Forms.{size-1, size-2, size-le}
 use Rattle.groups.proofs.RoundTrip.{Bytes}
 use Rattle.curve.specs.declared.Run.{Run}
 use Rattle.curve.specs.declared.Curve.{Curve}
-use Rattle.curve.specs.Curve.{noRun, runAt, lengthAt, savingAt, savingsOf, Good}
+use Rattle.curve.specs.Curve.{powerMax, noRun, runAt, lengthAt, savingAt, savingsOf, Good}
 use Rattle.fields.specs.Parse.{Parse, got, and-then, fieldAt}
 use Rattle.fields.specs.CurveFile.{runsFrom, curveFrom, runBytes, runsBytes, numbersOf, curveBytes}
 use Rattle.fields.proofs.ParseLaws.{then-got, pick-passed, got-same, field-got}
@@ -29,7 +29,7 @@ pub record CurveTold (s : List ℕ) (at : ℕ) (c : Curve) (next : ℕ) : Type 0
   pub at₂ : ℕ
   pub at₃ : ℕ
   pub fastest : fieldAt s 1 1023 at ≡ got (c .fastest .0) at₁
-  pub power : fieldAt s 0 2000000 at₁ ≡ got (c .power .0) at₂
+  pub power : fieldAt s 0 powerMax at₁ ≡ got (c .power .0) at₂
   pub count : fieldAt s 0 4 at₂ ≡ got (c .count) at₃
   pub runs : RunsRead s (c .fastest .0) (c .power .0) (c .count) at₃ (c .count) c next
   pub affords : savingsOf c ≤ c .power .0
@@ -38,7 +38,7 @@ same-numbers : (s : List ℕ) (at next : ℕ) (c : Curve) (f f′ p p′ n n′ 
 same-numbers s at next c f f′ p p′ n n′ fastest power count r = rw (fastest, power, count) r
 
 told : (s : List ℕ) (at : ℕ) (c : Curve) (next fastest power count at₁ at₂ at₃ : ℕ) →
-    fieldAt s 1 1023 at ≡ got fastest at₁ → fieldAt s 0 2000000 at₁ ≡ got power at₂ → fieldAt s 0 4 at₂ ≡ got count at₃ →
+    fieldAt s 1 1023 at ≡ got fastest at₁ → fieldAt s 0 powerMax at₁ ≡ got power at₂ → fieldAt s 0 4 at₂ ≡ got count at₃ →
     RunsRead s fastest power count at₃ count c next → savingsOf c ≤ power → CurveTold s at c next
 told s at c next fastest power count at₁ at₂ at₃ f p n r enough =
     let known = r .good in
@@ -72,7 +72,7 @@ pub curve-good : (s : List ℕ) (at : ℕ) (c : Curve) (next : ℕ) → curveFro
 curve-good s at c next is =
     let t = curve-told s at c next is in
     let f = field-got s 1 1023 at (c .fastest .0) (t .at₁) (t .fastest) in
-    let p = field-got s 0 2000000 (t .at₁) (c .power .0) (t .at₂) (t .power) in
+    let p = field-got s 0 powerMax (t .at₁) (c .power .0) (t .at₂) (t .power) in
     let n = field-got s 0 4 (t .at₂) (c .count) (t .at₃) (t .count) in
     let r = t .runs .good in
     record {
@@ -106,7 +106,7 @@ curve-writes-back s at c next bytes is =
     let few = field-got s 0 4 (t .at₂) (c .count) (t .at₃) (t .count) .to in
     rw (curve-form c few)
     (stands-join (field-stands s 1 1023 at (c .fastest .0) (t .at₁) bytes (t .fastest))
-    (stands-join (field-stands s 0 2000000 (t .at₁) (c .power .0) (t .at₂) bytes (t .power))
+    (stands-join (field-stands s 0 powerMax (t .at₁) (c .power .0) (t .at₂) bytes (t .power))
     (stands-join (field-stands s 0 4 (t .at₂) (c .count) (t .at₃) bytes (t .count)) (t .runs .stands bytes))))
 
 -- a curve that was read ends past its place and within the bytes
@@ -114,7 +114,7 @@ pub curve-next : (s : List ℕ) (at : ℕ) (c : Curve) (next : ℕ) → curveFro
 curve-next s at c next is =
     let t = curve-told s at c next is in
     let f = field-next s 1 1023 at (c .fastest .0) (t .at₁) (t .fastest) in
-    let p = field-next s 0 2000000 (t .at₁) (c .power .0) (t .at₂) (t .power) in
+    let p = field-next s 0 powerMax (t .at₁) (c .power .0) (t .at₂) (t .power) in
     let n = field-next s 0 4 (t .at₂) (c .count) (t .at₃) (t .count) in
     (omega (arith, f .0, p .0, n .0, t .runs .from), t .runs .within (n .1))
 
@@ -137,13 +137,13 @@ curve-reads-back s at c next good x =
     let read = back .read ∙ ap (λ (d : Curve). got d next) (curve-is c (back .runs) all) in
     rw (
       field-reads-back 1 1023 (c .fastest .0) (omega arith) (good .fastest-from) (good .fastest-to) (stands-first f (p ++ (n ++ r)) x₀),
-      field-reads-back 0 2000000 (c .power .0) (omega arith) (omega arith) (good .power-to) (stands-first p (n ++ r) x₁),
+      field-reads-back 0 powerMax (c .power .0) (omega arith) (omega arith) (good .power-to) (stands-first p (n ++ r) x₁),
       field-reads-back 0 4 (c .count) (omega arith) (omega arith) (good .count-to) (stands-first n r x₂),
       read,
       le-leb _ _ (good .affords),
     )
 
--- ---- sizes: fastest at most 2 bytes, power 3, run count 1, and each run 4
+-- ---- sizes: fastest at most 2 bytes, power as many as a number has, run count 1, and each run 4
 pub size-to-1 : (n : ℕ) → n < 128 → length (encode n) ≤ 1
 size-to-1 n small = omega (arith, size-1 n small)
 
@@ -162,7 +162,7 @@ module _ (c : Curve) (good : Good c) where
   unfolding runsBytes
   runs-size = omega (arith, row-size (λ i. runBytes (runAt c i)) 4 (c .count) run-size, good .count-to)
 
-  pub curve-size-le : length (curveBytes c) ≤ 22
+  pub curve-size-le : length (curveBytes c) ≤ 19 + groups
   curve-size-le =
       let p = encode (c .power .0) in
       let n = encode (c .count) in

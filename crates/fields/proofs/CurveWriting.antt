@@ -6,7 +6,7 @@ use Prim.Native.Nat.{ℕ, _+_, _≤_, _<_}
 use native.Mathlib.Omega.{arith}
 use lib.ListN.{length, length-append}
 use Rattle.base.proofs.Cases.{finished}
-use Rattle.groups.specs.Number.{limit, encode}
+use Rattle.groups.specs.Number.{groups, limit, encode}
 use Rattle.groups.proofs.Forms.{encode-none, size-le}
 use Rattle.curve.specs.declared.Run.{Run}
 use Rattle.curve.specs.declared.Curve.{Curve}
@@ -24,7 +24,7 @@ limit-form n most = encode-none limit (omega arith) ∙ sym (encode-none n most)
 pub form-counted : (n m r : ℕ) → encode m ≡ encode n → r ≡ length (encode m) → r ≡ length (encode n)
 form-counted n m r same is = rw (← same) is
 
-pub form-small : (n r : ℕ) → r ≡ length (encode n) → r ≤ 3
+pub form-small : (n r : ℕ) → r ≡ length (encode n) → r ≤ groups
 form-small n r is = rw is (size-le n)
 
 pub run-counted : (run : Run) (a b : ℕ) → a ≡ length (encode (run .length .0)) → b ≡ length (encode (run .saving .0)) → a + b ≡ length (runBytes run)

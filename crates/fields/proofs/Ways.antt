@@ -16,7 +16,7 @@ use Rattle.groups.specs.declared.Read.the-variants.{Number}
 use Rattle.groups.specs.declared.Read.the-variants as read
 use Rattle.groups.specs.Number.{numberAt}
 use Rattle.curve.specs.declared.Curve.{Curve}
-use Rattle.curve.specs.Curve.{savingsOf}
+use Rattle.curve.specs.Curve.{powerMax, savingsOf}
 use Rattle.fields.specs.declared.CurveRead.{CurveRead}
 use Rattle.fields.specs.Parse.{Parse, got, stop, and-then, repeat, number, rangedAt, fieldAt}
 use Rattle.fields.specs.CurveFile.{bare, withRun, falls, runFrom, runsFrom, curveFrom, curveRead}
@@ -39,7 +39,7 @@ module _ (s : List ℕ) (i : ℕ) (c : Curve) (at : ℕ) (f : Read) (is : number
   unfolding runFrom and-then
   run-no-length why place r e ends = rw (← is, e) ends
 
-  module _ (length at₁ : ℕ) (e : f ≡ Number length at₁) (g : Read) (is₁ : number g ≡ fieldAt s 1 1000 at₁) where
+  module _ (ticks at₁ : ℕ) (e : f ≡ Number ticks at₁) (g : Read) (is₁ : number g ≡ fieldAt s 1 1000 at₁) where
     pub run-no-saving : (why : Why) (place : ℕ) (r : CurveRead) → g ≡ read.Refused why place → r ≡ curveRead (stop why place) → r ≡ curveRead (runFrom s i c at)
     unfolding runFrom and-then
     run-no-saving why place r e₁ ends = rw (← is, e, ← is₁, e₁) ends
@@ -49,7 +49,7 @@ module _ (s : List ℕ) (i : ℕ) (c : Curve) (at : ℕ) (f : Read) (is : number
       unfolding runFrom and-then pick
       run-not-below r h ends = let b : falls c i saving ≡ false = sym tests ∙ not-true below h in rw (← is, e, ← is₁, e₁, b) ends
 
-      pub run-read : not below ≡ false → record { answer = Done; next = next; curve = withRun c i length saving } ≡ curveRead (runFrom s i c at)
+      pub run-read : not below ≡ false → record { answer = Done; next = next; curve = withRun c i ticks saving } ≡ curveRead (runFrom s i c at)
       unfolding runFrom and-then pick
       run-read h = let b : falls c i saving ≡ true = sym tests ∙ not-false below h in rw (← is, e, ← is₁, e₁, b)
 
@@ -127,7 +127,7 @@ module _ (s : List ℕ) (at : ℕ) (f : Read) (is : number f ≡ fieldAt s 1 102
   unfolding curveFrom and-then
   curve-no-fastest why place r e ends = rw (← is, e) ends
 
-  module _ (fastest at₁ : ℕ) (e : f ≡ Number fastest at₁) (g : Read) (is₁ : number g ≡ fieldAt s 0 2000000 at₁) where
+  module _ (fastest at₁ : ℕ) (e : f ≡ Number fastest at₁) (g : Read) (is₁ : number g ≡ fieldAt s 0 powerMax at₁) where
     pub curve-no-power : (why : Why) (place : ℕ) (r : CurveRead) → g ≡ read.Refused why place → r ≡ curveRead (stop why place) → r ≡ curveRead (curveFrom s at)
     unfolding curveFrom and-then
     curve-no-power why place r e₁ ends = rw (← is, e, ← is₁, e₁) ends

@@ -6,12 +6,12 @@ use mathlib.Core.List.{List, [], _++_}
 use lib.Dec.{ltb, leb, eqb}
 use lib.ListN.{set, replicate}
 use Rattle.base.specs.Pick.{pick}
-use Rattle.refusal.specs.declared.Why.the-variants.{SavingNotBelow, PowerBelowSavings}
+use Rattle.refusal.specs.Refusal.{by}
 use Rattle.refusal.specs.declared.Answer.the-variants.{Done, Refused}
 use Rattle.curve.specs.declared.Run.{Run}
 use Rattle.curve.specs.declared.Curve.{Curve}
 use Rattle.fields.specs.declared.CurveRead.{CurveRead}
-use Rattle.curve.specs.Curve.{noRun, runAt, savingAt, savingsOf}
+use Rattle.curve.specs.Curve.{powerMax, noRun, runAt, savingAt, savingsOf}
 use Rattle.groups.specs.Number.{encode}
 use Rattle.fields.specs.Writing.{inRow}
 use Rattle.fields.specs.Parse.{Parse, got, stop, and-then, repeat, fieldAt}
@@ -27,11 +27,11 @@ bare fastest power count = record {
 
 -- a curve with its run i
 abbrev pub withRun : Curve → ℕ → ℕ → ℕ → Curve
-withRun c i length saving = record {
+withRun c i ticks saving = record {
   fastest = c .fastest;
   power = c .power;
   count = c .count;
-  runs = set (c .runs) i (record { length = record { 0 = length }; saving = record { 0 = saving } });
+  runs = set (c .runs) i (record { length = record { 0 = ticks }; saving = record { 0 = saving } });
 }
 
 -- the saving of run i is below that of the run before; the first run has none before it
@@ -41,21 +41,21 @@ falls c i saving = pick (eqb i 0) true (ltb saving (savingAt c (i - 1)))
 -- run i of the curve: for the saving refusal 4, then 5, at the saving's first byte
 unfoldable pub runFrom : List ℕ → ℕ → Curve → ℕ → Parse Curve
 runFrom s i c at =
-    and-then (fieldAt s 1 255 at) (λ length at₁.
+    and-then (fieldAt s 1 255 at) (λ ticks at₁.
     and-then (fieldAt s 1 1000 at₁) (λ saving at₂.
-    pick (falls c i saving) (got (withRun c i length saving) at₂) (stop SavingNotBelow at₁)))
+    pick (falls c i saving) (got (withRun c i ticks saving) at₂) (stop (by 5) at₁)))
 
 -- run count and runs. "Refusal 6 comes after a part's last run", at the power's first byte
 unfoldable pub runsFrom : List ℕ → ℕ → ℕ → ℕ → ℕ → Parse Curve
 runsFrom s fastest power powerPlace at =
     and-then (fieldAt s 0 4 at) (λ count at₁.
     and-then (repeat (runFrom s) (bare fastest power count) at₁ count) (λ c next.
-    pick (leb (savingsOf c) power) (got c next) (stop PowerBelowSavings powerPlace)))
+    pick (leb (savingsOf c) power) (got c next) (stop (by 6) powerPlace)))
 
 unfoldable pub curveFrom : List ℕ → ℕ → Parse Curve
 curveFrom s at =
     and-then (fieldAt s 1 1023 at) (λ fastest at₁.
-    and-then (fieldAt s 0 2000000 at₁) (λ power at₂.
+    and-then (fieldAt s 0 powerMax at₁) (λ power at₂.
     runsFrom s fastest power at₁ at₂))
 
 -- what the reader hands back: at a fault no curve, and no place past it

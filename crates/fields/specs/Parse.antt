@@ -5,7 +5,7 @@ use mathlib.Core.List.{List}
 use lib.Dec.{ltb}
 use Rattle.base.specs.Pick.{pick}
 use Rattle.refusal.specs.declared.Why.{Why}
-use Rattle.refusal.specs.declared.Why.the-variants.{OutOfRange}
+use Rattle.refusal.specs.Refusal.{by}
 use Rattle.groups.specs.declared.Read.{Read}
 use Rattle.groups.specs.declared.Read.the-variants.{Number, Refused}
 use Rattle.groups.specs.Number.{numberAt}
@@ -32,7 +32,7 @@ number (Refused why place) = stop why place
 
 -- a number from low to high: "number outside its field's range"; place: "its first byte"
 unfoldable pub rangedAt : ℕ → ℕ → ℕ → ℕ → ℕ → Parse ℕ
-rangedAt low high at v next = pick (ltb v low) (stop OutOfRange at) (pick (ltb high v) (stop OutOfRange at) (got v next))
+rangedAt low high at v next = pick (ltb v low) (stop (by 4) at) (pick (ltb high v) (stop (by 4) at) (got v next))
 
 unfoldable pub fieldAt : List ℕ → ℕ → ℕ → ℕ → Parse ℕ
 fieldAt s low high at = and-then (number (numberAt s at)) (rangedAt low high at)

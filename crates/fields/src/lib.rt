@@ -7,9 +7,9 @@ use groups::Read;
 use refusal::Answer;
 use refusal::Why;
 ghost use mathlib.Core.Path.{_≡_};
-ghost use Prim.Native.Nat.{_≤_, _<_};
+ghost use Prim.Native.Nat.{_*_, _≤_, _<_};
 ghost use lib.ListN.{length};
-ghost use Rattle.groups.specs.Number.{encode};
+ghost use Rattle.groups.specs.Number.{groups, encode};
 ghost use Rattle.fields.specs.Parse.{number, rangedAt, fieldAt, stop, repeat};
 ghost use Rattle.fields.specs.CurveFile.{bare, falls, runFrom, runsFrom, curveFrom, curveRead, runBytes, runsBytes, curveBytes};
 ghost use Rattle.fields.specs.Writing.{WroteIfRoom, WroteOrNothing};
@@ -196,7 +196,7 @@ fn narrow(n: usize) -> u32
 
 // The bytes of a number's form; 0 for a number that has none.
 pub fn size(n: usize) -> usize
-    ensures { λ r. ⌜ (r ≡ length (encode n)) × (r ≤ 3) ⌝ }
+    ensures { λ r. ⌜ (r ≡ length (encode n)) × (r ≤ groups) ⌝ }
 {
     groups::size(narrow(n))
 }
@@ -209,14 +209,14 @@ pub fn put(buf: &mut [u8], at: usize, n: usize) -> usize
 }
 
 fn run_size(run: Run) -> usize
-    ensures { λ r. ⌜ (r ≡ length (runBytes run)) × (r ≤ 6) ⌝ }
+    ensures { λ r. ⌜ (r ≡ length (runBytes run)) × (r ≤ 2 * groups) ⌝ }
 {
     size(run.length.0 as usize) + size(run.saving.0 as usize)
 }
 
 fn runs_size(c: Curve) -> usize
     requires { ⌜ c .count ≤ 4 ⌝ }
-    ensures { λ r. ⌜ (r ≡ length (runsBytes c (c .count))) × (r ≤ 24) ⌝ }
+    ensures { λ r. ⌜ (r ≡ length (runsBytes c (c .count))) × (r ≤ 8 * groups) ⌝ }
 {
     let count = c.count;
     let mut bytes: usize = 0;
@@ -230,7 +230,7 @@ fn runs_size(c: Curve) -> usize
 
 // The bytes of a curve's form; 0 for a curve that has none.
 pub fn curve_size(c: Curve) -> usize
-    ensures { λ r. ⌜ (r ≡ length (curveBytes c)) × (r ≤ 33) ⌝ }
+    ensures { λ r. ⌜ (r ≡ length (curveBytes c)) × (r ≤ 11 * groups) ⌝ }
 {
     if Curve::RUNS_MAX < c.count {
         return 0;

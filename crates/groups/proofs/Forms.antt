@@ -48,6 +48,10 @@ in-size (suc left) n = ⊎-elim
     (λ (large : 128 ≤ n). rw (in-more left n large) (omega (arith, in-size left (n / 128))))
     (lt-or-le n 128)
 
+-- numbers up to 268,435,455 have a form
+pub limit-is : limit ≡ 268435456
+limit-is = refl
+
 -- ---- the form
 pub encode-is : (n : ℕ) → n < limit → encode n ≡ encodeIn groups n
 unfolding encode pick
@@ -67,7 +71,7 @@ encode-more n large less =
     in-enough (groups - 1) groups (n / 128) (omega arith) (omega arith) (rest-less (groups - 1) n less) less′ ∙ sym (encode-is (n / 128) less′) in
     encode-is n less ∙ in-more (groups - 1) n large ∙ ap (λ (l : List ℕ). (n % 128 + 128) ∷ l) same
 
--- "at most three groups"
+-- "a number may have four groups"
 pub size-le : (n : ℕ) → length (encode n) ≤ groups
 size-le n = ⊎-elim
     (λ (less : n < limit). rw (encode-is n less) (in-size groups n))
@@ -89,9 +93,6 @@ size-more n large less = ap length (encode-more n large less)
 
 pub size-2 : (n : ℕ) → 128 ≤ n → n < 16384 → length (encode n) ≡ 2
 size-2 n large small = size-more n large (omega arith) ∙ ap suc (size-1 (n / 128) (omega arith))
-
-pub size-3 : (n : ℕ) → 16384 ≤ n → n < 2097152 → length (encode n) ≡ 3
-size-3 n large small = size-more n (omega arith) (omega arith) ∙ ap suc (size-2 (n / 128) (omega arith) (omega arith))
 
 -- ---- the ways through `size`
 pub no-form : (n : ℕ) → limit ≤ n → 0 ≡ length (encode n)

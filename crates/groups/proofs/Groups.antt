@@ -44,12 +44,12 @@ module _ (s : List ℕ) (first at scale sum left : ℕ) (is : groupsFrom left s 
   head : groupsFrom (suc (left - 1)) s first at scale sum ≡ numberAt s first
   head = rw (one-more left some) at is
 
-  pub cut-short : length s ≤ at → Refused CutShort (length s) ≡ numberAt s first
-  cut-short ends = sym (input-ends (left - 1) s first at scale sum ends) ∙ head
+  pub cut-short : (r : Read) → r ≡ Refused CutShort (length s) → length s ≤ at → r ≡ numberAt s first
+  cut-short r is-refused ends = is-refused ∙ sym (input-ends (left - 1) s first at scale sum ends) ∙ head
 
   module _ (more : at < length s) where
-    pub not-shortest : (r : Bool) → getD s at 0 < 128 → r ≡ shortestEnd first at (getD s at 0) → r ≡ false → Refused NotShortest first ≡ numberAt s first
-    not-shortest r last test long = sym (longer-than-needed (left - 1) s first at scale sum more last (sym test ∙ long)) ∙ head
+    pub not-shortest : (r : Read) (t : Bool) → r ≡ Refused NotShortest first → getD s at 0 < 128 → t ≡ shortestEnd first at (getD s at 0) → t ≡ false → r ≡ numberAt s first
+    not-shortest r t is-refused last test long = is-refused ∙ sym (longer-than-needed (left - 1) s first at scale sum more last (sym test ∙ long)) ∙ head
 
     pub number-read : (r : Bool) (h : ℕ) → getD s at 0 < 128 → r ≡ shortestEnd first at (getD s at 0) → r ≡ true → h ≡ getD s at 0 % 128 → Number (sum + h * scale) (at + 1) ≡ numberAt s first
     number-read r h last test short bits = rw bits (sym (number-ends (left - 1) s first at scale sum more last (sym test ∙ short)) ∙ head)
@@ -57,10 +57,10 @@ module _ (s : List ℕ) (first at scale sum left : ℕ) (is : groupsFrom left s 
     pub group-read : (h : ℕ) → 128 ≤ getD s at 0 → h ≡ getD s at 0 % 128 → groupsFrom (left - 1) s first (at + 1) (scale * 128) (sum + h * scale) ≡ numberAt s first
     group-read h on bits = rw bits (sym (goes-on (left - 1) s first at scale sum more on) ∙ head)
 
-pub groups-spent : (s : List ℕ) (first at scale sum left : ℕ) → groupsFrom left s first at scale sum ≡ numberAt s first → left ≤ 0 → Refused NotShortest first ≡ numberAt s first
+pub groups-spent : (s : List ℕ) (first at scale sum left : ℕ) (r : Read) → r ≡ Refused NotShortest first → groupsFrom left s first at scale sum ≡ numberAt s first → left ≤ 0 → r ≡ numberAt s first
 unfolding groupsFrom
-groups-spent s first at scale sum zero is none = is
-groups-spent s first at scale sum (suc left) is none = absurd (omega arith)
+groups-spent s first at scale sum zero r is-refused is none = is-refused ∙ is
+groups-spent s first at scale sum (suc left) r is-refused is none = absurd (omega arith)
 
 -- ---- the sums stay below the limit, while a group may come that is worth `scale` a unit and what came before is worth less than one
 pub scale-next : (scale left : ℕ) → 0 < left → scale * 128 ^ left ≤ limit → scale * 128 * 128 ^ (left - 1) ≤ limit

@@ -4,10 +4,11 @@ ghost use mathlib.Core.Path.{_≡_};
 ghost use Prim.Native.Nat.{_<_, _≤_, _+_, _%_};
 ghost use lib.ListN.{length};
 ghost use lib.Seq.{sets};
+ghost use Rattle.groups.specs.declared.Read.the-variants.{Refused};
 ghost use Rattle.groups.specs.Number.{shortestEnd, limit, numberAt, encode, written, writtenTo};
 
 // The most groups of a number, and the least number that would need one more.
-pub const GROUPS: usize = 3;
+pub const GROUPS: usize = 4;
 
 pub const LIMIT: u32 = 1 << (7 * GROUPS);
 
@@ -15,6 +16,12 @@ pub const LIMIT: u32 = 1 << (7 * GROUPS);
 pub enum Read {
     Number { value: u32, next: usize },
     Refused { why: Why, place: usize },
+}
+
+fn refused(why: Why, place: usize) -> Read
+    ensures { λ r. ⌜ r ≡ Refused why place ⌝ }
+{
+    Read::Refused { why, place }
 }
 
 // The seven bits of a group.
@@ -44,10 +51,7 @@ pub fn read_number(s: &[u8], at: usize) -> Read
     let mut sum: u32 = 0;
     while 0 < left {
         if s.len() <= i {
-            return Read::Refused {
-                why: Why::CutShort,
-                place: s.len(),
-            };
+            return refused(Why::CutShort, s.len());
         }
         let g = s[i];
         sum = sum + seven_bits(g) * scale;
@@ -58,19 +62,13 @@ pub fn read_number(s: &[u8], at: usize) -> Read
                     next: i + 1,
                 };
             }
-            return Read::Refused {
-                why: Why::NotShortest,
-                place: at,
-            };
+            return refused(Why::NotShortest, at);
         }
         scale = scale * 128;
         i = i + 1;
         left = left - 1;
     }
-    Read::Refused {
-        why: Why::NotShortest,
-        place: at,
-    }
+    refused(Why::NotShortest, at)
 }
 
 // The bytes of a number's form; 0 for a number that has none.

@@ -10,9 +10,8 @@ use Rattle.base.specs.Pick.{pick}
 use Rattle.theory.specs.Sum.{cells}
 use Rattle.board.specs.declared.Link.{Link}
 use Rattle.board.specs.declared.Board.{Board}
-use Rattle.board.specs.Board.{linkAt, Linked, WellFormed}
+use Rattle.board.specs.Board.{linkAt, Linked, WellFormed, delayOf}
 use Rattle.board.proofs.LinkLaws.{both-hold}
-use Rattle.times.specs.Times.{wireOf}
 use Rattle.kin.specs.Critical.{criticalb, criticalAt, Critical}
 
 module _ (start end : List ℕ) (l : Link) where
@@ -20,7 +19,7 @@ module _ (start end : List ℕ) (l : Link) where
   pub record Meets : Type 0 where
     pub from-in : l .from < 64
     pub to-in : l .to < 64
-    pub meets : cells end (l .from) + wireOf l ≡ cells start (l .to)
+    pub meets : cells end (l .from) + delayOf l ≡ cells start (l .to)
 
   pub critical-meets : criticalb start end l ≡ true → Meets
   unfolding criticalb
@@ -46,11 +45,11 @@ module _ (b : Board) (start end : List ℕ) where
   pub critical-linked : (p q : ℕ) → Critical b start end p q → Linked b p q
   critical-linked p q c = record { link = c .link; here = omega (arith, at-critical (c .link) (c .critical) .0); from = c .from; to = c .to }
 
-  pub critical-ends : (p q : ℕ) (c : Critical b start end p q) → cells end p + wireOf (linkAt b (c .link)) ≡ cells start q
+  pub critical-ends : (p q : ℕ) (c : Critical b start end p q) → cells end p + delayOf (linkAt b (c .link)) ≡ cells start q
   critical-ends p q c =
       rw (← c .from, ← c .to) (critical-meets start end (linkAt b (c .link)) (at-critical (c .link) (c .critical) .1) .meets)
 
-  pub linked-critical : WellFormed b → (p q : ℕ) (l : Linked b p q) → cells end p + wireOf (linkAt b (l .link)) ≡ cells start q → Critical b start end p q
+  pub linked-critical : WellFormed b → (p q : ℕ) (l : Linked b p q) → cells end p + delayOf (linkAt b (l .link)) ≡ cells start q → Critical b start end p q
   linked-critical ok p q l meets =
       let m : Meets start end (linkAt b (l .link)) = record {
         from-in = omega (arith, ok .from-in (l .link) (l .here), ok .parts-to);

@@ -12,8 +12,7 @@ use Rattle.marks.specs.Marks.{bit}
 use Rattle.marks.proofs.Bits.{bit-past}
 use Rattle.board.specs.declared.Link.{Link}
 use Rattle.board.specs.declared.Board.{Board}
-use Rattle.board.specs.Board.{linkAt}
-use Rattle.times.specs.Times.{wireOf}
+use Rattle.board.specs.Board.{plainLink, linkAt, delayOf}
 use Rattle.kin.specs.declared.Kin.{Kin}
 use Rattle.kin.specs.Critical.{criticalb, criticalAt, Critical}
 use Rattle.kin.specs.Kin.{Closed, KinOf}
@@ -21,7 +20,7 @@ use Rattle.kin.proofs.CriticalLaws.{at-critical}
 use Rattle.kin.proofs.KinLaws.{kin-once}
 
 abbrev link : ℕ → ℕ → Link
-link p q = record { from = p; to = q }
+link p q = plainLink p q
 
 -- the marks of the set 10
 ten : (P : ℕ → Type 0) → P 1 → P 3 → (n : ℕ) → bit 10 n ≡ 1 → P n
@@ -42,7 +41,7 @@ module _ (b : Board) (links : b .links ≡ 3) (l0 : linkAt b 0 ≡ link 0 1) (l1
   module _ (start end : List ℕ) (s1 : cells start 1 ≡ 4) (s2 : cells start 2 ≡ 7) (s3 : cells start 3 ≡ 4) (e0 : cells end 0 ≡ 4) (e1 : cells end 1 ≡ 7) where
     -- all three links are critical
     all-critical : (l : ℕ) → l < 3 → criticalAt b start end l ≡ true
-    unfolding criticalAt criticalb wireOf pick
+    unfolding criticalAt criticalb delayOf pick
     all-critical zero h = rw (links, l0, e0, s1)
     all-critical (suc zero) h = rw (links, l1, e0, s3)
     all-critical (suc (suc zero)) h = rw (links, l2, e1, s2)
@@ -71,7 +70,7 @@ module _ (b : Board) (links : b .links ≡ 3) (l0 : linkAt b 0 ≡ link 0 1) (l1
       parent = λ r q h c. by-link (λ (x y : ℕ). bit 10 y ≡ 1 → bit 1 x ≡ 1) (λ g. refl) (λ g. refl) (λ g. absurd (omega arith)) r q c h;
     }
 
-    kin-is : KinOf (Critical b start end) 0 (record { parents = 1; children = 10 })
+    pub kin-is : KinOf (Critical b start end) 0 (record { parents = 1; children = 10 })
     kin-is = record {
       parents-fit = lit< tt;
       children-fit = lit< tt;

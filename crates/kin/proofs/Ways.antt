@@ -16,8 +16,7 @@ use Rattle.theory.specs.Sum.{cells}
 use Rattle.marks.specs.Marks.{hasOf, unionOf, insertOf}
 use Rattle.board.specs.declared.Link.{Link}
 use Rattle.board.specs.declared.Board.{Board}
-use Rattle.board.specs.Board.{linkAt}
-use Rattle.times.specs.Times.{wireOf}
+use Rattle.board.specs.Board.{linkAt, delayOf}
 use Rattle.kin.specs.declared.Rows.{Rows}
 use Rattle.kin.specs.Critical.{criticalb, criticalAt}
 use Rattle.kin.specs.Steps.{noMarks, noRowsOf, markedOf, withLinkOf, marksUpTo, rowsUpTo, joinedOf, gatheredUpTo, gatheredOf}
@@ -40,16 +39,16 @@ module _ (start end : List ℕ) (l : Link) where
   unfolding criticalb pick
   to-past h g = rw (lt-ltb (l .from) 64 h, le-ltb (l .to) 64 g)
 
-  critical-by : l .from < 64 → l .to < 64 → criticalb start end l ≡ eqb (cells end (l .from) + wireOf l) (cells start (l .to))
+  critical-by : l .from < 64 → l .to < 64 → criticalb start end l ≡ eqb (cells end (l .from) + delayOf l) (cells start (l .to))
   unfolding criticalb pick
   critical-by h g = rw (lt-ltb (l .from) 64 h, lt-ltb (l .to) 64 g)
 
   pub too-early : l .from < 64 → l .to < 64 → cells start (l .to) < cells end (l .from) → false ≡ criticalb start end l
-  too-early h g less = sym (critical-by h g ∙ ne-eqb (cells end (l .from) + wireOf l) (cells start (l .to)) (λ e. omega (arith, e)))
+  too-early h g less = sym (critical-by h g ∙ ne-eqb (cells end (l .from) + delayOf l) (cells start (l .to)) (λ e. omega (arith, e)))
 
-  pub compared : (w : ℕ) → l .from < 64 → l .to < 64 → cells end (l .from) ≤ cells start (l .to) → w ≡ wireOf l
+  pub compared : (w : ℕ) → l .from < 64 → l .to < 64 → cells end (l .from) ≤ cells start (l .to) → w ≡ delayOf l
       → eqb (cells start (l .to) - cells end (l .from)) w ≡ criticalb start end l
-  compared w h g le e = rw e (eqb-less (cells end (l .from)) (cells start (l .to)) (wireOf l) le ∙ sym (critical-by h g))
+  compared w h g le e = rw e (eqb-less (cells end (l .from)) (cells start (l .to)) (delayOf l) le ∙ sym (critical-by h g))
 
 -- ---- `link_is_critical`
 module _ (b : Board) (start end : List ℕ) (n l : ℕ) (links : n ≡ min (b .links) 256) where

@@ -11,14 +11,13 @@ use Rattle.marks.specs.Marks.{Exactly}
 use Rattle.curve.specs.Tests.{both}
 use Rattle.board.specs.declared.Link.{Link}
 use Rattle.board.specs.declared.Board.{Board}
-use Rattle.board.specs.Board.{linkAt}
-use Rattle.times.specs.Times.{wireOf}
+use Rattle.board.specs.Board.{linkAt, delayOf}
 use Rattle.kin.specs.declared.Rows.{Rows}
 
 -- "A link is critical when the end of its first part equals the start of its second." What the link itself takes counts: none today.
 -- Parts are below 64.
 unfoldable pub criticalb : List ℕ → List ℕ → Link → Bool
-criticalb start end l = both (ltb (l .from) 64) (both (ltb (l .to) 64) (eqb (cells end (l .from) + wireOf l) (cells start (l .to))))
+criticalb start end l = both (ltb (l .from) 64) (both (ltb (l .to) 64) (eqb (cells end (l .from) + delayOf l) (cells start (l .to))))
 
 -- link l of the board is critical; a board holds no more than 256 links
 unfoldable pub criticalAt : Board → List ℕ → List ℕ → ℕ → Bool

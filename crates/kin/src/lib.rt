@@ -44,7 +44,7 @@ fn critical(start: [u32; 64], end: [u32; 64], l: Link) -> bool
     if s < e {
         return false;
     }
-    s - e == times::wire(l)
+    s - e == board::link_delay(l)
 }
 
 // Whether link l of the board is critical; false where the board has no link l.

@@ -1,6 +1,7 @@
 -- The ways of the functions that look a label up, in plain values.
 -- Assumes nothing.
 use mathlib.Core.Path.{_≡_, refl, sym, ap, _∙_}
+use mathlib.Core.Logic.{⊎-elim, _↔_}
 use mathlib.Core.Bool.{Bool, true, false, not}
 use mathlib.Core.List.{List, [], _∷_}
 use Prim.Native.Nat.{ℕ, zero, suc, _+_, _-_, _≤_, _<_}
@@ -12,7 +13,10 @@ use lib.Seq.{drop-cons}
 use lib.Dec.{leb, eqb}
 use borrow.Author.Tests.{eq-eqb, ne-eqb, le-leb, lt-leb}
 use Rattle.base.specs.Pick.{pick}
-use Rattle.names.specs.Sheet.{firstLine, pastLine, fromLine, lineOf, plain, allPlain, goodLabel, labelOf, labelPlace}
+use Rattle.base.proofs.Cases.{lt-or-le}
+use Rattle.refusal.specs.declared.Answer.the-variants.{Done}
+use Rattle.refusal.specs.Refusal.{refusal}
+use Rattle.names.specs.Sheet.{firstLine, pastLine, fromLine, lineOf, plain, allPlain, goodLabel, labelOf, labelPlace, labelAnswer}
 
 -- ---- `line_start`: the lines left from `at` on are those that were left from the start
 from-empty : (n : ℕ) → fromLine [] n ≡ []
@@ -183,3 +187,49 @@ module _
       pub good-place : (q : ℕ) → r ≡ true → start + q ≡ q + labelPlace s n
       unfolding labelPlace pick
       good-place q e = rw (good-is, e, begun) (omega arith)
+
+-- ---- `label_answer`: a good label has a byte, so the stretch is empty exactly where there is none
+good-some : (l : List ℕ) → goodLabel l ≡ true → 1 ≤ length l
+good-some l good =
+    ⊎-elim
+    (λ (h : length l < 1).
+    let off : false ≡ true = sym (good-short l h) ∙ good in
+    absurd (let z : _≡_ {A = ℕ} 0 1 = cc in omega arith))
+    (λ (h : 1 ≤ length l). h)
+    (lt-or-le (length l) 1)
+
+module _ (s : List ℕ) (n : ℕ) where
+  label-good : goodLabel (lineOf s n) ≡ true → (labelOf s n ≡ lineOf s n) × (labelAnswer s n ≡ Done)
+  unfolding labelOf labelAnswer pick
+  label-good good = (rw good, rw good)
+
+  label-bad : goodLabel (lineOf s n) ≡ false → (labelOf s n ≡ []) × (labelAnswer s n ≡ refusal 20 0)
+  unfolding labelOf labelAnswer pick
+  label-bad bad = (rw bad, rw bad)
+
+  empty-by : (t : Bool) → goodLabel (lineOf s n) ≡ t → length (labelOf s n) ≡ 0 → labelAnswer s n ≡ refusal 20 0
+  empty-by true good none = absurd (omega (arith, good-some (lineOf s n) good, ap length (label-good good .0)))
+  empty-by false bad none = label-bad bad .1
+
+  some-by : (t : Bool) → goodLabel (lineOf s n) ≡ t → (length (labelOf s n) ≡ 0 → ⊥) → labelAnswer s n ≡ Done
+  some-by true good some = label-good good .1
+  some-by false bad some = absurd (some (ap length (label-bad bad .0)))
+
+  refused-by : (t : Bool) → goodLabel (lineOf s n) ≡ t → labelAnswer s n ≡ refusal 20 0 → labelOf s n ≡ []
+  refused-by true good e =
+      let off : Done ≡ refusal 20 0 = sym (label-good good .1) ∙ e in
+      absurd (let z : _≡_ {A = ℕ} 0 1 = cc in omega arith)
+  refused-by false bad e = label-bad bad .0
+
+  pub no-label : (l : List ℕ) → l ≡ labelOf s n → length l ≡ 0 → refusal 20 0 ≡ labelAnswer s n
+  no-label l is none = sym (empty-by (goodLabel (lineOf s n)) refl (sym (ap length is) ∙ none))
+
+  pub a-label : (l : List ℕ) → l ≡ labelOf s n → (length l ≡ 0 → ⊥) → Done ≡ labelAnswer s n
+  a-label l is some = sym (some-by (goodLabel (lineOf s n)) refl (λ none. some (ap length is ∙ none)))
+
+  -- "20 .. an empty stretch": refused exactly where the stretch is empty
+  pub label-refused : (labelAnswer s n ≡ refusal 20 0) ↔ (labelOf s n ≡ [])
+  label-refused = (
+    refused-by (goodLabel (lineOf s n)) refl,
+    λ none. empty-by (goodLabel (lineOf s n)) refl (ap length none),
+  )

@@ -6,6 +6,9 @@ use mathlib.Core.Bool.{Bool, true, false}
 use lib.ListN.{length}
 use lib.Dec.{ltb, leb, eqb}
 use Rattle.base.specs.Pick.{pick}
+use Rattle.refusal.specs.declared.Answer.{Answer}
+use Rattle.refusal.specs.declared.Answer.the-variants.{Done}
+use Rattle.refusal.specs.Refusal.{refusal}
 
 -- the line that a text begins with: the bytes before its first byte 10
 unfoldable pub firstLine : List ℕ → List ℕ
@@ -38,10 +41,14 @@ allPlain (x ∷ r) = pick (plain x) (allPlain r) false
 unfoldable pub goodLabel : List ℕ → Bool
 goodLabel l = pick (leb 1 (length l)) (pick (leb (length l) 16) (allPlain l) false) false
 
--- the whole line where it is a good label, else nothing: refusal 20
+-- the whole line where it is a good label, else "an empty stretch"
 unfoldable pub labelOf : List ℕ → ℕ → List ℕ
 labelOf s n = pick (goodLabel (lineOf s n)) (lineOf s n) []
 
 -- "The label is handed back as that stretch of the caller's sheet": where the stretch begins
 unfoldable pub labelPlace : List ℕ → ℕ → ℕ
 labelPlace s n = pick (goodLabel (lineOf s n)) (length s - length (fromLine s n)) 0
+
+-- 20: "sheet has no such line or no good label there", place 0; exactly where the stretch is empty (`label-refused`)
+unfoldable pub labelAnswer : List ℕ → ℕ → Answer
+labelAnswer s n = pick (goodLabel (lineOf s n)) Done (refusal 20 0)

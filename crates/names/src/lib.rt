@@ -1,8 +1,10 @@
 // Labels: looked up in a name sheet alone, for any line number, and handed back as that stretch of the sheet.
+use refusal::Answer;
+use refusal::Why;
 ghost use mathlib.Core.Path.{_≡_};
 ghost use Prim.Native.Nat.{_+_, _-_, _≤_};
 ghost use lib.ListN.{length, take, drop};
-ghost use Rattle.names.specs.Sheet.{firstLine, fromLine, allPlain, plain, labelOf, labelPlace};
+ghost use Rattle.names.specs.Sheet.{firstLine, fromLine, allPlain, plain, labelOf, labelPlace, labelAnswer};
 
 pub const LABEL_MAX: usize = 16;
 
@@ -90,4 +92,18 @@ pub fn label(sheet: &[u8], line: usize) -> &[u8]
     } else {
         &sheet[..0]
     }
+}
+
+// The answer beside the stretch: refusal 20 exactly where it is empty.
+pub fn label_answer(sheet: &[u8], line: usize) -> Answer
+    ensures { λ r. ⌜ r ≡ labelAnswer (now (sheet .entry)) line ⌝ }
+{
+    let found = label(sheet, line);
+    if found.len() == 0 {
+        return Answer::Refused {
+            why: Why::NoLabel,
+            place: 0,
+        };
+    }
+    Answer::Done
 }

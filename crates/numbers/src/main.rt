@@ -1,6 +1,12 @@
 // Reads and writes numbers at every boundary (01, Files; refusals 1 and 2) and prints a line for each.
+use groups::GROUPS;
 use groups::Read;
 use libc::STDOUT_FILENO;
+
+// Room for any number with bytes on both sides, and with one byte before it.
+const WIDE: usize = GROUPS + 3;
+
+const TIGHT: usize = GROUPS + 1;
 
 // A word and a number.
 fn print(word: &[u8], n: u64) {
@@ -79,31 +85,44 @@ fn number(n: u32) {
     print(b"number ", n as u64);
     print(b" size ", groups::size(n) as u64);
     end_line();
-    let mut wide_buffer = [9u8; 6];
+    let mut wide_buffer = [9u8; WIDE];
     write(&mut wide_buffer, 2, n);
     read(&wide_buffer, 2);
     let mut k: usize = 0;
-    while k < 5 {
-        let mut buffer = [9u8; 4];
+    while k <= TIGHT {
+        let mut buffer = [9u8; TIGHT];
         write(&mut buffer[..k], 1, n);
         k = k + 1;
     }
-    let mut last = [9u8; 4];
+    let mut last = [9u8; TIGHT];
     write(&mut last, 18446744073709551615, n);
 }
 
 // The prefixes of a number's form.
 fn form(n: u32) {
-    let mut buffer = [9u8; 3];
+    let mut buffer = [9u8; GROUPS];
     groups::write_number(&mut buffer, 0, n);
     let k = groups::size(n);
     read_prefixes(&buffer[..k]);
 }
 
 fn main() {
-    let boundaries: [u32; 8] = [0, 1, 127, 128, 16383, 16384, 2097151, 2097152];
+    let boundaries: [u32; 12] = [
+        0,
+        1,
+        127,
+        128,
+        16383,
+        16384,
+        2097151,
+        2097152,
+        20000000,
+        20000001,
+        268435455,
+        268435456,
+    ];
     let mut i: usize = 0;
-    while i < 8 {
+    while i < 12 {
         number(boundaries[i]);
         form(boundaries[i]);
         i = i + 1;
@@ -116,8 +135,10 @@ fn main() {
     read_places(b"\xff\xff\x00");
     read_places(b"\x80\x80\x80");
     read_places(b"\xff\xff\xff");
-    read_places(b"\x80\x80\x80\x00");
-    read_places(b"\x80\x80\x80\x01");
     read_places(b"\xff\xff\xff\xff");
-    read_places(b"\x05\x80\x01\xff\xff\x7f\x00\x80");
+    read_places(b"\x05\x80\x01\xff\xff\xff\x7f\x00\x80");
+    read_prefixes(b"\x80\x80\x80\x01");
+    read_prefixes(b"\xff\xff\xff\x7f");
+    read_prefixes(b"\x80\x80\x80\x80\x01");
+    read_prefixes(b"\x80\x80\x80\x00");
 }

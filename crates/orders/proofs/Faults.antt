@@ -16,6 +16,7 @@ use Rattle.groups.specs.Number.{numberAt}
 use Rattle.groups.proofs.NumberLaws.{refused-place, nothing-left}
 use Rattle.groups.proofs.RoundTrip.{number-next}
 use Rattle.curve.specs.declared.Curve.{Curve}
+use Rattle.curve.specs.Curve.{powerMax}
 use Rattle.fields.specs.Parse.{Parse, got, stop, and-then, repeat, number, rangedAt, fieldAt}
 use Rattle.fields.specs.CurveFile.{bare, runFrom, runsFrom, curveFrom}
 use Rattle.fields.proofs.ParseLaws.{number-once}
@@ -92,10 +93,10 @@ module _ (s : List ℕ) where
   unfolding curveFrom runsFrom
   curve-stops at =
       then-stops _ _ (field-stops 1 1023 at) (λ fastest at₁ is.
-      then-stops _ _ (field-stops 0 2000000 at₁) (λ power at₂ is₁.
+      then-stops _ _ (field-stops 0 powerMax at₁) (λ power at₂ is₁.
       then-stops _ _ (field-stops 0 4 at₂) (λ count at₃ is₂.
       then-stops _ _ (runs-stops (bare fastest power count) at₃ count) (λ c next is₃.
-      pick-stops _ _ _ (got-stops c next) (fault-stops Curve _ at₁ (power-below-savings (field-here 0 2000000 at₁ power at₂ is₁)))))))
+      pick-stops _ _ _ (got-stops c next) (fault-stops Curve _ at₁ (power-below-savings (field-here 0 powerMax at₁ power at₂ is₁)))))))
 
   link-stops : (change : ℕ → ℕ → Change) (at : ℕ) → Stops (linkFrom change s at)
   unfolding linkFrom

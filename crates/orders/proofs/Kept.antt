@@ -9,6 +9,7 @@ use Rattle.groups.specs.declared.Read.the-variants.{Number}
 use Rattle.groups.specs.Number.{numberAt}
 use Rattle.groups.proofs.NumberLaws.{number-kept}
 use Rattle.curve.specs.declared.Curve.{Curve}
+use Rattle.curve.specs.Curve.{powerMax}
 use Rattle.fields.specs.Parse.{Parse, got, and-then, repeat, number, fieldAt}
 use Rattle.fields.specs.CurveFile.{bare, runFrom, runsFrom, curveFrom}
 use Rattle.fields.proofs.ParseLaws.{number-once, Then, then-got, Ranged, field-got, field-reads}
@@ -46,7 +47,7 @@ module _ (s post : List ℕ) where
 
   run-kept : (i : ℕ) (c : Curve) (at : ℕ) → Keeps (runFrom s i c at) (runFrom (s ++ post) i c at)
   unfolding runFrom
-  run-kept i c at = then-kept _ _ _ _ (field-kept 1 255 at) (λ length at₁. then-kept _ _ _ _ (field-kept 1 1000 at₁) (λ saving at₂. same-kept _))
+  run-kept i c at = then-kept _ _ _ _ (field-kept 1 255 at) (λ ticks at₁. then-kept _ _ _ _ (field-kept 1 1000 at₁) (λ saving at₂. same-kept _))
 
   runs-kept : (c : Curve) (at k : ℕ) → Keeps (repeat (runFrom s) c at k) (repeat (runFrom (s ++ post)) c at k)
   unfolding repeat
@@ -57,7 +58,7 @@ module _ (s post : List ℕ) where
   unfolding curveFrom runsFrom
   curve-kept at =
       then-kept _ _ _ _ (field-kept 1 1023 at) (λ fastest at₁.
-      then-kept _ _ _ _ (field-kept 0 2000000 at₁) (λ power at₂.
+      then-kept _ _ _ _ (field-kept 0 powerMax at₁) (λ power at₂.
       then-kept _ _ _ _ (field-kept 0 4 at₂) (λ count at₃. then-kept _ _ _ _ (runs-kept (bare fastest power count) at₃ count) (λ c next. same-kept _))))
 
   link-kept : (change : ℕ → ℕ → Change) (at : ℕ) → Keeps (linkFrom change s at) (linkFrom change (s ++ post) at)

@@ -10,7 +10,7 @@ use lib.Dec.{eqb}
 use lib.ListN.{length}
 use Rattle.base.specs.Pick.{pick}
 use Rattle.refusal.specs.declared.Why.{Why}
-use Rattle.refusal.specs.declared.Why.the-variants.{CutShort, NotShortest, OutOfRange, SavingNotBelow, PowerBelowSavings, UnknownKind}
+use Rattle.refusal.specs.Refusal.{by}
 use Rattle.refusal.specs.declared.Answer.the-variants.{Done, Refused}
 use Rattle.curve.specs.declared.Curve.{Curve}
 use Rattle.curve.specs.Curve.{Good}
@@ -58,7 +58,7 @@ kindFrom s kind at =
     (pick (eqb kind 2) (linkFrom AddLink s at)
     (pick (eqb kind 3) (linkFrom RemoveLink s at)
     (pick (eqb kind 4) (newCurveFrom s at)
-    (stop UnknownKind 0))))
+    (stop (by 12) 0))))
 
 -- "An order is read alone (1, 2, 12, 4, 5, 6)": the order that the bytes begin with and the bytes it took, or the first fault
 unfoldable pub orderOf : List ℕ → Parse Order
@@ -98,9 +98,9 @@ orderBytes o = changeBytes (o .change) (o .curve)
 -- ---- what can be wrong with an order that is read alone
 -- "(1, 2, 12, 4, 5, 6)", each with its place: "input length" for 1, "kind's first byte" for 12, for the others a byte of the input
 pub data Fault (s : List ℕ) : Why → ℕ → Type 0 where
-  cut-short : Fault s CutShort (length s)
-  not-shortest : {at : ℕ} → at < length s → Fault s NotShortest at
-  unknown-kind : 0 < length s → Fault s UnknownKind 0
-  out-of-range : {at : ℕ} → at < length s → Fault s OutOfRange at
-  saving-not-below : {at : ℕ} → at < length s → Fault s SavingNotBelow at
-  power-below-savings : {at : ℕ} → at < length s → Fault s PowerBelowSavings at
+  cut-short : Fault s (by 1) (length s)
+  not-shortest : {at : ℕ} → at < length s → Fault s (by 2) at
+  unknown-kind : 0 < length s → Fault s (by 12) 0
+  out-of-range : {at : ℕ} → at < length s → Fault s (by 4) at
+  saving-not-below : {at : ℕ} → at < length s → Fault s (by 5) at
+  power-below-savings : {at : ℕ} → at < length s → Fault s (by 6) at

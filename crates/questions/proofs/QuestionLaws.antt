@@ -7,7 +7,7 @@ use Rattle.refusal.specs.declared.Answer.{Answer}
 use Rattle.refusal.specs.declared.Answer.the-variants.{Done, Refused}
 use Rattle.marks.specs.Marks.{Exactly}
 use Rattle.marks.proofs.Bits.{exactly-once}
-use Rattle.board.specs.Path.{Reach}
+use Rattle.board.specs.Leads.{Reach}
 use Rattle.kin.specs.declared.Kin.{Kin}
 use Rattle.kin.proofs.KinLaws.{kin-once}
 use Rattle.desk.specs.declared.Desk.{Desk}

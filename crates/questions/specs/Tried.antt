@@ -5,7 +5,7 @@ use mathlib.Core.Path.{_≡_}
 use Prim.Native.Nat.{ℕ}
 use lib.Dec.{ltb}
 use Rattle.base.specs.Pick.{pick}
-use Rattle.refusal.specs.declared.Why.the-variants.{NoBoard, NoPart}
+use Rattle.refusal.specs.Refusal.{refusal}
 use Rattle.refusal.specs.declared.Answer.{Answer}
 use Rattle.refusal.specs.declared.Answer.the-variants.{Done, Refused}
 use Rattle.desk.specs.declared.Desk.{Desk}
@@ -13,11 +13,11 @@ use Rattle.desk.specs.Held.{Standing}
 
 -- 11: "no board held", place 0
 abbrev pub noBoard : Answer
-noBoard = Refused NoBoard 0
+noBoard = refusal 11 0
 
 -- 17: "no such part on the board", place: "the part asked for"
 abbrev pub noPart : ℕ → Answer
-noPart p = Refused NoPart p
+noPart p = refusal 17 p
 
 unfoldable pub boardTried : Desk → Answer
 boardTried d = pick (d .held) Done noBoard

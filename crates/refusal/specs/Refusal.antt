@@ -1,6 +1,14 @@
--- The table of refusals: their numbers. A refusal's place stands beside it in each answer.
+-- The table of refusals: their numbers. A refusal's place stands beside it in each answer. Every promise names a refusal by its number (`by`, `refusal`),
+-- so that it can be held side by side with 01's table.
 -- Assumes nothing.
-use Prim.Native.Nat.{ℕ}
+use mathlib.Core.Bool.{Bool, true, false}
+use mathlib.Core.List.{List, [], _∷_}
+use Prim.Native.Nat.{ℕ, _-_}
+use lib.Dec.{eqb}
+use lib.ListN.{getD}
+use Rattle.base.specs.Pick.{pick}
+use Rattle.refusal.specs.declared.Answer.{Answer}
+use Rattle.refusal.specs.declared.Answer.the-variants.{Refused}
 use Rattle.refusal.specs.declared.Why.{Why}
 use Rattle.refusal.specs.declared.Why.the-variants.{
   CutShort,
@@ -47,3 +55,41 @@ numberOf NoPart = 17  -- no such part on the board
 numberOf TallyFull = 18  -- tally's sum is 65,535 or more
 numberOf OffCurve = 19  -- delay outside the part's curve
 numberOf NoLabel = 20  -- sheet has no such line or no good label there
+
+-- the rows of the table, in its order
+abbrev pub rows : List Why
+rows =
+    CutShort
+    ∷ NotShortest
+    ∷ WrongVersion
+    ∷ OutOfRange
+    ∷ SavingNotBelow
+    ∷ PowerBelowSavings
+    ∷ LinkNotAbove
+    ∷ BytesAfter
+    ∷ Looped
+    ∷ TooSlow
+    ∷ NoBoard
+    ∷ UnknownKind
+    ∷ LinkThere
+    ∷ LinkMissing
+    ∷ LinksFull
+    ∷ BufferShort
+    ∷ NoPart
+    ∷ TallyFull
+    ∷ OffCurve
+    ∷ NoLabel
+    ∷ []
+
+-- the refusal that has a number (`by-number`)
+abbrev pub by : ℕ → Why
+by number = getD rows (number - 1) NoLabel
+
+-- "Each refusal gives its number and a place."
+abbrev pub refusal : ℕ → ℕ → Answer
+refusal number place = Refused (by number) place
+
+-- a number is one of these
+unfoldable pub among : ℕ → List ℕ → Bool
+among n [] = false
+among n (m ∷ others) = pick (eqb n m) true (among n others)

@@ -10,25 +10,27 @@ use Rattle.theory.specs.Budget.{greatest, arrive}
 use Rattle.curve.specs.declared.Run.{Run}
 use Rattle.curve.specs.declared.Curve.{Curve}
 use Rattle.curve.specs.Curve.{noRun}
+use Rattle.board.specs.declared.Rule.the-variants.{A}
 use Rattle.board.specs.declared.Link.{Link}
 use Rattle.board.specs.declared.Board.{Board}
-use Rattle.board.specs.Board.{noLink, blankCurve, usable, view}
+use Rattle.board.specs.Board.{plainLink, noLink, blankCurve, usableUnder, usable, delayOf, view}
 use Rattle.slow.specs.declared.ShownPath.{ShownPath}
-use Rattle.slow.specs.Slow.{First, LastPart, StepBack, first, next, Loopless, FastestEnds, shown, SlowOf, exceeded}
+use Rattle.slow.specs.Slow.{First, LastPart, StepBack, first, next, Loopless, FastestEnds, SlowPath, shown, SlowOf, exceeded}
 use Rattle.slow.proofs.SlowLaws.{slow-once}
 
 abbrev run : ℕ → ℕ → Run
-run length saving = record { length = record { 0 = length }; saving = record { 0 = saving } }
+run ticks saving = record { length = record { 0 = ticks }; saving = record { 0 = saving } }
 
 abbrev curve : ℕ → ℕ → ℕ → List Run → Curve
 curve fastest power count runs = record { fastest = record { 0 = fastest }; power = record { 0 = power }; count = count; runs = runs }
 
 abbrev link : ℕ → ℕ → Link
-link from to = record { from = from; to = to }
+link from to = plainLink from to
 
 -- ---- case (9)
 unfoldable pub boardK : Board
 boardK = record {
+  rule = A;
   deadline = record { 0 = 9 };
   parts = 4;
   curve = curve 2 100 2 (run 2 20 ∷ run 1 5 ∷ noRun ∷ noRun ∷ [])
@@ -51,14 +53,14 @@ abbrev endsK : ℕ → ℕ
 endsK = cells (2 ∷ 9 ∷ 10 ∷ 6 ∷ [])
 
 fastestK : FastestEnds boardK endsK
-unfolding boardK view arrive greatest share
+unfolding boardK view delayOf arrive greatest share
 fastestK = record {
   start = cells (0 ∷ 6 ∷ 9 ∷ 2 ∷ []);
   timed = record { starts = below-4 _ refl refl refl refl; ends = below-4 _ refl refl refl refl };
 }
 
 lastK : LastPart (view boardK) endsK 2
-unfolding boardK view
+unfolding boardK view delayOf
 lastK = record {
   here = omega arith;
   greatest = below-4 _ (omega arith) (omega arith) (omega arith) (omega arith);
@@ -69,7 +71,7 @@ abbrev StepK : ℕ → ℕ → Type 0
 StepK p q = StepBack (view boardK) endsK p q
 
 step-2 : StepK 2 1
-unfolding boardK view
+unfolding boardK view delayOf
 step-2 = record {
   by = record { link = 2; here = omega arith; from = refl; to = refl };
   greatest = below-4 _ (λ q. omega arith) (λ q. omega arith) (λ q. omega arith) (λ q. omega arith);
@@ -77,7 +79,7 @@ step-2 = record {
 }
 
 step-1 : StepK 1 3
-unfolding boardK view
+unfolding boardK view delayOf
 step-1 = record {
   by = record { link = 3; here = omega arith; from = refl; to = refl };
   greatest = below-4 _ (λ q. omega arith) (λ q. omega arith) (λ q. omega arith) (λ q. omega arith);
@@ -85,7 +87,7 @@ step-1 = record {
 }
 
 step-3 : StepK 3 0
-unfolding boardK view
+unfolding boardK view delayOf
 step-3 = record {
   by = record { link = 1; here = omega arith; from = refl; to = refl };
   greatest = below-4 _ (λ q. omega arith) (λ q. omega arith) (λ q. omega arith) (λ q. omega arith);
@@ -93,19 +95,28 @@ step-3 = record {
 }
 
 first-0 : First (view boardK) 0
-unfolding boardK view
+unfolding boardK view delayOf
 first-0 = record { none = below-4 _ (λ q. omega arith) (λ q. omega arith) (λ q. omega arith) (λ q. omega arith) }
 
-shownK : SlowOf boardK (shown 10 (0 ∷ 3 ∷ 1 ∷ 2 ∷ []))
-unfolding boardK usable
-shownK = exceeded fastestK lastK (omega arith) (next step-2 (next step-1 (next step-3 (first first-0)))) refl
+pub slow-K : SlowPath boardK 10 (0 ∷ 3 ∷ 1 ∷ 2 ∷ [])
+unfolding boardK usable usableUnder
+slow-K = record {
+  end = endsK;
+  part = 2;
+  ends = fastestK;
+  last = lastK;
+  walked = next step-2 (next step-1 (next step-3 (first first-0)));
+  place = refl;
+  over = omega arith;
+}
 
 pub case-9 : Loopless boardK → (r : ShownPath) → SlowOf boardK r → r ≡ shown 10 (0 ∷ 3 ∷ 1 ∷ 2 ∷ [])
-case-9 ok r s = slow-once boardK ok r (shown 10 (0 ∷ 3 ∷ 1 ∷ 2 ∷ [])) s shownK
+case-9 ok r s = slow-once boardK ok r (shown 10 (0 ∷ 3 ∷ 1 ∷ 2 ∷ [])) s (exceeded slow-K refl)
 
 -- ---- case (7)
 unfoldable pub board1 : Board
 board1 = record {
+  rule = A;
   deadline = record { 0 = 4 };
   parts = 1;
   curve = curve 5 255 1 (run 255 1 ∷ noRun ∷ noRun ∷ noRun ∷ []) ∷ replicate 63 blankCurve;
@@ -117,12 +128,17 @@ only-0 : (P : ℕ → Type 0) → P 0 → (p : ℕ) → p < 1 → P p
 only-0 P a zero h = a
 only-0 P a (suc p) h = absurd (omega arith)
 
-shown1 : SlowOf board1 (shown 5 (0 ∷ []))
-unfolding board1 usable view arrive greatest
-shown1 =
-    exceeded {e = cells (5 ∷ [])} {p = 0} (record { start = λ p. 0; timed = record { starts = only-0 _ refl; ends = only-0 _ refl } })
-    (record { here = omega arith; greatest = only-0 _ (omega arith); lowest = only-0 _ (λ q. omega arith) }) (omega arith)
-    (first {p = 0} (record { none = λ l h q. omega arith })) refl
+pub slow-1 : SlowPath board1 5 (0 ∷ [])
+unfolding board1 usable usableUnder view delayOf arrive greatest
+slow-1 = record {
+  end = cells (5 ∷ []);
+  part = 0;
+  ends = record { start = λ p. 0; timed = record { starts = only-0 _ refl; ends = only-0 _ refl } };
+  last = record { here = omega arith; greatest = only-0 _ (omega arith); lowest = only-0 _ (λ q. omega arith) };
+  walked = first (record { none = λ l h q. omega arith });
+  place = refl;
+  over = omega arith;
+}
 
 pub case-7 : Loopless board1 → (r : ShownPath) → SlowOf board1 r → r ≡ shown 5 (0 ∷ [])
-case-7 ok r s = slow-once board1 ok r (shown 5 (0 ∷ [])) s shown1
+case-7 ok r s = slow-once board1 ok r (shown 5 (0 ∷ [])) s (exceeded slow-1 refl)

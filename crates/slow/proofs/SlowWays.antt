@@ -1,6 +1,6 @@
 -- The ways of `slow_path`, in plain values.
 -- Assumes nothing.
-use mathlib.Core.Path.{_≡_, _∙_}
+use mathlib.Core.Path.{_≡_, refl, _∙_}
 use mathlib.Core.Bool.{true, false}
 use mathlib.Core.List.{List}
 use Prim.Native.Nat.{ℕ, min, _≤_, _<_}
@@ -44,7 +44,8 @@ module _ (b : Board) (ok : Loopless b) (d : List ℕ) (isd : d ≡ fastestsOf b)
   keeps : (a : ℕ) → a ≡ usable b → getD (t .end) last 0 ≤ a → (xs : List ℕ) → xs ≡ table 64 (λ p. 0)
       → SlowOf b (record { slow = false; ticks = 0; count = 0; path = xs })
   unfolding inTime table view
-  keeps a isa h xs none = kept ends (λ p k. omega (arith, last-part .greatest p k)) (rw none)
+  keeps a isa h xs none =
+      kept (record { end = cells (t .end); ends = ends; within = λ p k. omega (arith, last-part .greatest p k) }) (rw none)
 
   exceeds : (a : ℕ) → a ≡ usable b → a < getD (t .end) last 0 → (back : List ℕ)
       → (Joined (b .link) (b .links) (t .end) → back ≡ backsOf (b .link) (t .start) (t .end) (b .links))
@@ -54,7 +55,9 @@ module _ (b : Board) (ok : Loopless b) (d : List ℕ) (isd : d ≡ fastestsOf b)
   exceeds a isa h back isb trail walk =
       let w = walks b (ok .formed) (t .start) (t .end) timed (b .parts) last (last-part .here) (earlier-lt (b .parts) (cells (t .end)) last (last-part .here)) in
       let is : trail ≡ trailOf (w .path) = walk ∙ rw (isb joined) (w .is) in
-      exceeded ends last-part (omega arith) (w .walked) (rw is)
+      exceeded
+      (record { end = cells (t .end); part = last; ends = ends; last = last-part; walked = w .walked; place = refl; over = omega arith })
+      (rw is)
 
 -- the returns: the counts that were cut are the board's own
 module _ (b : Board) (n : ℕ) (cut : n ≡ min (b .parts) 64) (d : List ℕ) (isd : d ≡ fastestsOf b) (t : Schedule) (last : ℕ) (isl : last ≡ lastOf (t .end) n)

@@ -17,8 +17,7 @@ use Rattle.theory.proofs.SumLaws.{below-suc, share-eq, share-ne}
 use Rattle.theory.proofs.ArriveLaws.{arrive-ge}
 use Rattle.board.specs.declared.Link.{Link}
 use Rattle.board.specs.declared.Board.{Board}
-use Rattle.board.specs.Board.{noLink, linkAt, view, WellFormed}
-use Rattle.times.specs.Times.{wireOf}
+use Rattle.board.specs.Board.{noLink, linkAt, view, WellFormed, delayOf}
 use Rattle.slow.specs.Slow.{First, LastPart, StepBack}
 use Rattle.slow.specs.Walk.{lastOf, backOf}
 
@@ -99,20 +98,20 @@ arrival G e p h =
 module _ (link : List Link) (s e : List ℕ) (p : ℕ) where
   -- the k-th link's part, if it arrives at p's start
   abbrev candidate : ℕ → ℕ
-  candidate k = let l = getD link k noLink in pick (eqb (l .to) p) (pick (eqb (cells e (l .from) + wireOf l) (cells s p)) (l .from) 64) 64
+  candidate k = let l = getD link k noLink in pick (eqb (l .to) p) (pick (eqb (cells e (l .from) + delayOf l) (cells s p)) (l .from) 64) 64
 
   record Awaits (k q : ℕ) : Type 0 where
     pub at : ℕ
     pub here : at < k
     pub from : getD link at noLink .from ≡ q
     pub to : getD link at noLink .to ≡ p
-    pub is : cells e q + wireOf (getD link at noLink) ≡ cells s p
+    pub is : cells e q + delayOf (getD link at noLink) ≡ cells s p
 
   back-suc : (k : ℕ) → backOf link s e (suc k) p ≡ min (backOf link s e k p) (candidate k)
   unfolding backOf
   back-suc k = refl
 
-  candidate-hit : (k : ℕ) → getD link k noLink .to ≡ p → cells e (getD link k noLink .from) + wireOf (getD link k noLink) ≡ cells s p
+  candidate-hit : (k : ℕ) → getD link k noLink .to ≡ p → cells e (getD link k noLink .from) + delayOf (getD link k noLink) ≡ cells s p
       → candidate k ≡ getD link k noLink .from
   unfolding pick
   candidate-hit k to is = rw (eq-eqb _ _ to, eq-eqb _ _ is)
@@ -123,17 +122,17 @@ module _ (link : List Link) (s e : List ℕ) (p : ℕ) where
       ⊎-elim
       (λ (to : getD link k noLink .to ≡ p).
       ⊎-elim
-      (λ (is : cells e (getD link k noLink .from) + wireOf (getD link k noLink) ≡ cells s p).
+      (λ (is : cells e (getD link k noLink .from) + delayOf (getD link k noLink) ≡ cells s p).
       rw (candidate-hit k to is) (record { at = k; here = omega arith; from = refl; to = to; is = is }))
-      (λ (d : cells e (getD link k noLink .from) + wireOf (getD link k noLink) ≡ cells s p → ⊥). absurd (missed (rw (eq-eqb _ _ to, ne-eqb _ _ d))))
-      (eq-or-ne (cells e (getD link k noLink .from) + wireOf (getD link k noLink)) (cells s p)))
+      (λ (d : cells e (getD link k noLink .from) + delayOf (getD link k noLink) ≡ cells s p → ⊥). absurd (missed (rw (eq-eqb _ _ to, ne-eqb _ _ d))))
+      (eq-or-ne (cells e (getD link k noLink .from) + delayOf (getD link k noLink)) (cells s p)))
       (λ (d : getD link k noLink .to ≡ p → ⊥). absurd (missed (rw (ne-eqb _ _ d))))
       (eq-or-ne (getD link k noLink .to) p)
     where
       missed : candidate k ≡ 64 → ⊥
       missed q = omega arith
 
-  back-le : (k l : ℕ) → l < k → getD link l noLink .to ≡ p → cells e (getD link l noLink .from) + wireOf (getD link l noLink) ≡ cells s p
+  back-le : (k l : ℕ) → l < k → getD link l noLink .to ≡ p → cells e (getD link l noLink .from) + delayOf (getD link l noLink) ≡ cells s p
       → backOf link s e k p ≤ getD link l noLink .from
   back-le zero = λ l h. absurd (omega arith)
   back-le (suc k) =
@@ -159,7 +158,7 @@ module _ (b : Board) (ok : WellFormed b) (s e : List ℕ) (t : Timed (view b) (v
 
   -- a part that no start waits for has none before it: every part takes time
   pub back-first : (p : ℕ) → p < b .parts → 64 ≤ back p → First (view b) p
-  unfolding view wireOf
+  unfolding view delayOf
   back-first p h none = record {
     none = λ l k q.
         let f = ok .from-in l k in
@@ -171,7 +170,7 @@ module _ (b : Board) (ok : WellFormed b) (s e : List ℕ) (t : Timed (view b) (v
   }
 
   pub back-step : (p : ℕ) → p < b .parts → back p < 64 → StepBack (view b) (cells e) p (back p)
-  unfolding view wireOf
+  unfolding view delayOf
   back-step p h some =
       let a = back-is (b .link) s e p (b .links) some in
       record {

@@ -12,8 +12,8 @@ use Rattle.base.specs.Pick.{pick}
 use Rattle.base.proofs.Cases.{finished, pick-elim}
 use Rattle.theory.specs.Sum.{cells}
 use Rattle.board.specs.declared.Link.{Link}
-use Rattle.board.specs.Board.{noLink}
-use Rattle.times.specs.Times.{table, wireOf, Joined}
+use Rattle.board.specs.Board.{noLink, delayOf}
+use Rattle.times.specs.Times.{table, Joined}
 use Rattle.times.proofs.TableLaws.{table-at, table-set}
 use Rattle.slow.specs.declared.Trail.{Trail}
 use Rattle.slow.specs.Walk.{lastOf, backOf, backsOf, trailOf, pushedOf, walkOf}
@@ -63,7 +63,7 @@ back-to link s e (suc k) p = omega (arith, back-to link s e k p)
 
 module _ (link : List Link) (s e : List ℕ) (k : ℕ) where
   back-here : min (backOf link s e k (getD link k noLink .to))
-      (pick (eqb (cells e (getD link k noLink .from) + wireOf (getD link k noLink)) (cells s (getD link k noLink .to))) (getD link k noLink .from) 64)
+      (pick (eqb (cells e (getD link k noLink .from) + delayOf (getD link k noLink)) (cells s (getD link k noLink .to))) (getD link k noLink .from) 64)
       ≡ backOf link s e (suc k) (getD link k noLink .to)
   unfolding backOf pick
   back-here = rw (eq-eqb (getD link k noLink .to) (getD link k noLink .to) refl)
@@ -77,7 +77,7 @@ module _ (link : List Link) (s e : List ℕ) where
   unfolding backsOf backOf
   backs-none back is = is
 
-  pub backs-more : (n k : ℕ) → k < n → (back : List ℕ) (w a v : ℕ) → w ≡ wireOf (getD link k noLink)
+  pub backs-more : (n k : ℕ) → k < n → (back : List ℕ) (w a v : ℕ) → w ≡ delayOf (getD link k noLink)
       → a ≡ pick (eqb (getD e (getD link k noLink .from % 64) 0 + w) (getD s (getD link k noLink .to % 64) 0)) (getD link k noLink .from % 64) 64
       → v ≡ min (getD back (getD link k noLink .to % 64) 0) a
       → (Joined link n e → back ≡ backsOf link s e k) → Joined link n e → set back (getD link k noLink .to % 64) v ≡ backsOf link s e (k + 1)
@@ -88,7 +88,7 @@ module _ (link : List Link) (s e : List ℕ) where
       let is = before ok in
       let t-is : t % 64 ≡ t = omega (arith, ok .to-in k h) in
       let f-is : f % 64 ≡ f = omega (arith, ok .from-in k h) in
-      let a-is : a ≡ pick (eqb (cells e f + wireOf (getD link k noLink)) (cells s t)) f 64 = isa ∙ rw (t-is, f-is, isw) in
+      let a-is : a ≡ pick (eqb (cells e f + delayOf (getD link k noLink)) (cells s t)) f 64 = isa ∙ rw (t-is, f-is, isw) in
       let v-is : v ≡ min (getD back t 0) a = isv ∙ rw t-is in
       rw (add-one, t-is, is)
       (table-set 64 (backOf link s e k) (backOf link s e (suc k)) t v (ok .to-in k h)

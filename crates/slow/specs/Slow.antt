@@ -61,6 +61,30 @@ pub record FastestEnds (b : Board) (e : ℕ → ℕ) : Type 0 where
   pub start : ℕ → ℕ
   pub timed : Timed (view b) (view b .fastest) start e
 
+-- the fastest delays alone keep the usable deadline
+pub record InTime (b : Board) : Type 0 where
+  pub end : ℕ → ℕ
+  pub ends : FastestEnds b end
+  pub within : (p : ℕ) → p < b .parts → end p ≤ usable b
+
+-- "When the fastest delays alone exceed the deadline, the shown path is fixed"; refusal 10's place is "that path's ticks"
+pub record SlowPath (b : Board) (ticks : ℕ) (path : List ℕ) : Type 0 where
+  pub end : ℕ → ℕ
+  pub part : ℕ
+  pub ends : FastestEnds b end
+  pub last : LastPart (view b) end part
+  pub walked : Walked (view b) end part path
+  pub place : ticks ≡ end part
+  pub over : usable b < ticks
+
+-- a path of the board that takes more ticks at its fastest than the usable deadline has
+pub record TooSlow (b : Board) : Type 0 where
+  pub part : ℕ
+  pub path : List ℕ
+  pub ticks : ℕ
+  pub is : PathTo (view b) part path ticks
+  pub over : usable b < ticks
+
 -- an answer with that path; places past it hold 0
 unfoldable pub shown : ℕ → List ℕ → ShownPath
 shown ticks path = record { slow = true; ticks = ticks; count = length path; path = path ++ replicate (64 - length path) 0 }
@@ -69,9 +93,7 @@ shown ticks path = record { slow = true; ticks = ticks; count = length path; pat
 unfoldable pub inTime : ShownPath
 inTime = record { slow = false; ticks = 0; count = 0; path = replicate 64 0 }
 
--- "When the fastest delays alone exceed the deadline, the shown path is fixed"; its place is "that path's ticks"
+-- which of the two it is
 pub data SlowOf (b : Board) (r : ShownPath) : Type 0 where
-  kept : {e : ℕ → ℕ} → FastestEnds b e → ((p : ℕ) → p < b .parts → e p ≤ usable b) → r ≡ inTime → SlowOf b r
-  exceeded :
-      {e : ℕ → ℕ} {p : ℕ} {path : List ℕ} → FastestEnds b e → LastPart (view b) e p → usable b < e p → Walked (view b) e p path →
-      r ≡ shown (e p) path → SlowOf b r
+  kept : InTime b → r ≡ inTime → SlowOf b r
+  exceeded : {ticks : ℕ} {path : List ℕ} → SlowPath b ticks path → r ≡ shown ticks path → SlowOf b r

@@ -7,8 +7,8 @@ use lib.ListN.{length, getD, set, replicate}
 use Rattle.base.specs.Pick.{pick}
 use Rattle.theory.specs.Sum.{cells}
 use Rattle.board.specs.declared.Link.{Link}
-use Rattle.board.specs.Board.{noLink}
-use Rattle.times.specs.Times.{table, wireOf}
+use Rattle.board.specs.Board.{noLink, delayOf}
+use Rattle.times.specs.Times.{table}
 use Rattle.slow.specs.declared.Trail.{Trail}
 
 -- the lowest-numbered of the first n parts whose end is greatest
@@ -21,7 +21,7 @@ unfoldable pub backOf : List Link → List ℕ → List ℕ → ℕ → ℕ → 
 backOf link s e zero p = 64
 backOf link s e (suc k) p =
     let l = getD link k noLink in
-    min (backOf link s e k p) (pick (eqb (l .to) p) (pick (eqb (cells e (l .from) + wireOf l) (cells s p)) (l .from) 64) 64)
+    min (backOf link s e k p) (pick (eqb (l .to) p) (pick (eqb (cells e (l .from) + delayOf l) (cells s p)) (l .from) 64) 64)
 
 unfoldable pub backsOf : List Link → List ℕ → List ℕ → ℕ → List ℕ
 backsOf link s e n = table 64 (backOf link s e n)

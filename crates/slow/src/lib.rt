@@ -1,10 +1,10 @@
 // Whether all parts at their fastest keep the usable deadline, and the path to be shown where they do not.
 use board::Board;
 use board::Link;
+use board::link_delay;
 use board::usable_deadline;
 use times::fastest_delays;
 use times::times_of;
-use times::wire;
 ghost use mathlib.Core.Path.{_≡_};
 ghost use Prim.Native.Nat.{_+_, _≤_, min};
 ghost use mathlib.Core.List.{[]};
@@ -83,7 +83,7 @@ fn backs(link: [Link; 256], n: usize, s: [u32; 64], e: [u32; 64]) -> [usize; 64]
         let l = link[k];
         let f = l.from % 64;
         let t = l.to % 64;
-        back[t] = lesser(back[t], awaited(f, e[f], wire(l), s[t]));
+        back[t] = lesser(back[t], awaited(f, e[f], link_delay(l), s[t]));
         k = k + 1;
     }
     back

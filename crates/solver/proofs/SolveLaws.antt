@@ -1,24 +1,15 @@
--- What the solver's contract gives its callers: one answer, and a reason that stands without the solver.
+-- What the solver's contract gives its callers: one answer.
 -- Assumes nothing.
 use mathlib.Core.Path.{_≡_, refl, sym, ap, _∙_}
-use Prim.Native.Nat.{ℕ, _≤_}
-use native.Mathlib.Omega.{arith}
-use mathlib.Core.List.{List}
+use Prim.Native.Nat.{ℕ}
 use Rattle.refusal.specs.declared.Answer.{Answer}
 use Rattle.refusal.specs.declared.Answer.the-variants.{Done, Refused}
-use Rattle.theory.specs.Sum.{cells}
-use Rattle.theory.proofs.TimedLaws.{budget-feasible}
-use Rattle.theory.proofs.Duality.{cheapest-total}
 use Rattle.board.specs.declared.Board.{Board}
-use Rattle.board.specs.Board.{WellFormed, view}
-use Rattle.board.proofs.Lawful.{lawful}
+use Rattle.board.specs.Board.{WellFormed}
 use Rattle.slow.specs.Walk.{trailOf}
-use Rattle.budget.specs.declared.Budget.{Budget}
-use Rattle.budget.specs.Budget.{Allowed}
-use Rattle.budget.proofs.BudgetLaws.{allowed-budget, allowed-total, holds-once}
-use Rattle.solver.specs.Wired.{flowOf}
+use Rattle.budget.proofs.BudgetLaws.{holds-once}
 use Rattle.solver.specs.declared.Solved.{Solved}
-use Rattle.solver.specs.Solve.{Reason, Solves}
+use Rattle.solver.specs.Solve.{Solves}
 use Rattle.solver.proofs.VerdictLaws.{verdict-once}
 
 -- two results of the contract have the same answer, path and budget; of flows there may be many
@@ -40,17 +31,3 @@ module _ (b : Board) (ok : WellFormed b) (r r′ : Solved) (s : Solves b r) (s�
         path = s .listed ∙ ap trailOf (same .listed) ∙ sym (s′ .listed);
         budget = budget-once (r .answer) refl (sym (same .answer));
       }
-
--- a reason proves an allowed budget cheapest
-pub reason-cheapest : (b : Board) → WellFormed b → (r : Budget) → Allowed b r → (flow : List ℕ) → Reason b r flow → (r′ : Budget) → Allowed b r′ →
-    r .total ≤ r′ .total
-reason-cheapest b ok r a flow why r′ a′ =
-    let o = lawful b ok in
-    let f = budget-feasible (view b) o (allowed-budget b ok r a) in
-    let f′ = budget-feasible (view b) o (allowed-budget b ok r′ a′) in
-    omega (
-      arith,
-      allowed-total b ok r a,
-      allowed-total b ok r′ a′,
-      cheapest-total (view b) o (flowOf (view b) (cells flow)) (why .conserves) f (why .slack) f′,
-    )

@@ -1,10 +1,12 @@
--- Loads that conserve and their first times are the budget held, with its reason; and loads from the main loop always have first times.
+-- The ways of `solve`: a board refused; and loads that conserve with their first times, which are the budget held and its reason.
 -- Assumes nothing.
-use mathlib.Core.Path.{_≡_, refl, sym}
+use mathlib.Core.Path.{_≡_, refl, sym, _∙_}
 use mathlib.Core.Bool.{Bool, true, false, not}
 use mathlib.Core.List.{List, []}
-use Prim.Native.Nat.{ℕ, _≤_}
+use Prim.Native.Nat.{ℕ, _+_, _≤_, _<_}
 use native.Mathlib.Omega.{arith}
+use mir.Syntax.{w64}
+use mir.Val.{Fits}
 use borrow.Author.Tests.{not-true, not-false}
 use Rattle.refusal.specs.declared.Why.{Why}
 use Rattle.refusal.specs.declared.Answer.{Answer}
@@ -23,27 +25,24 @@ use Rattle.slow.specs.Walk.{trailOf}
 use Rattle.budget.specs.declared.Budget.{Budget}
 use Rattle.budget.specs.Budget.{Holds}
 use Rattle.budget.specs.Made.{valueOf}
+use Rattle.budget.specs.Reason.{Reason, loadsOf}
 use Rattle.budget.proofs.BudgetLaws.{value-alike, value-holds}
-use Rattle.solver.specs.Net.{Net, netOf}
-use Rattle.solver.specs.Flow.{Sheet, World, First, Decided}
-use Rattle.solver.specs.Sheet.{Says}
-use Rattle.solver.proofs.network.Verdict.{crashed-first}
-use Rattle.solver.specs.Crash.{Wide, Good, Crashed}
-use Rattle.solver.specs.Wired.{Wired, NetworkOf, timesOf}
-use Rattle.solver.proofs.wiring.Bridge.{balanced-conserves}
-use Rattle.solver.proofs.wiring.Nodes.{first-held, first-slack}
-use Rattle.solver.proofs.wiring.Worlds.{board-world}
+use Rattle.nets.specs.Net.{Net}
+use Rattle.nets.specs.Flow.{Sheet, First}
+use Rattle.nets.specs.Wired.{Wired, timesOf}
+use Rattle.nets.specs.Sheet.{netIn, arcsIn, timeIn, loadIn}
+use Rattle.nets.proofs.Bridge.{balanced-conserves}
+use Rattle.nets.proofs.Nodes.{first-held, first-slack}
+use Rattle.nets.proofs.Steps.{first-agrees, sheet-agrees}
+use Rattle.deciding.specs.Balancing.{SheetIn}
 use Rattle.solver.specs.declared.Solved.{Solved}
-use Rattle.solver.specs.declared.Work.{Work}
 use Rattle.solver.specs.declared.judging.Judged.{Judged}
 use Rattle.solver.specs.Verdict.{Verdict, looped, slow, fine}
-use Rattle.solver.specs.Judge.{JudgedOf}
-use Rattle.solver.specs.Solve.{noBudget, noLoads, refusedOf, Reason, Solvable, Solves}
-use Rattle.times.specs.declared.Schedule.{Schedule}
-use Rattle.times.specs.Times.{slowestsOf, Timeable, TimesOf}
-use Rattle.times.proofs.TimesLaws.{slowest-timeable}
-use Rattle.solver.specs.Steps.{Budgeted, Begun, Slowest, Proves, Accepts, Prepared}
-use Rattle.solver.proofs.Slowest.{slowest-good}
+use Rattle.solver.specs.Judging.{JudgedOf}
+use Rattle.solver.specs.Solve.{noBudget, noLoads, refusedOf, Solvable, Solves}
+use Rattle.solver.specs.Wiring.{NetworkIn}
+use Rattle.solver.specs.Finding.{Prepared, Found, Answers}
+use Rattle.solver.specs.Reading.{Budgeted, FlowIn}
 
 -- times that agree are slack with the same loads
 alike-slack : (G : Graph) → Lawful G → {τ τ′ : Times} → Alike G τ τ′ → {T : ℕ} {φ : Flow} → Slack G T τ φ → Slack G T τ′ φ
@@ -63,18 +62,19 @@ never e = absurd (let z : _≡_ {A = ℕ} 0 1 = cc in omega arith)
 
 solvable-fine : (b : Board) → Solvable b → Verdict b Done []
 solvable-fine b can =
-    fine (ranked-loop-free b 65 (can .ranked)) (record { start = can .start; timed = can .fastest }) (can .in-time)
+    fine (ranked-loop-free b 65 (can .ranked))
+    (record { end = can .end; ends = record { start = can .start; timed = can .fastest }; within = can .in-time })
 
 verdict-solvable : (b : Board) → WellFormed b → {a : Answer} {path : List ℕ} → Verdict b a path → a ≡ Done → Solvable b
 verdict-solvable b w (looped x) e = never e
-verdict-solvable b w (slow free f last over walk) e = never e
-verdict-solvable b w (fine {e = ends} free f within) e = record {
+verdict-solvable b w (slow free x) e = never e
+verdict-solvable b w (fine free k) e = record {
   formed = w;
   ranked = loop-free-ranked b w free;
-  start = f .start;
-  end = ends;
-  fastest = f .timed;
-  in-time = within;
+  start = k .ends .start;
+  end = k .end;
+  fastest = k .ends .timed;
+  in-time = k .within;
 }
 
 module _ (b : Board) (j : Judged) (so : JudgedOf b j) where
@@ -96,7 +96,7 @@ module _ (b : Board) (j : Judged) (so : JudgedOf b j) where
 
 pub refused-is :
     (a : Answer) (p : Trail) (u : Budget) (x : List ℕ) → u ≡ noBudget → x ≡ noLoads →
-    record { answer = a; path = p; budget = u; flow = x; work = record { pushes = 0; lowerings = 0; rounds = 0 } } ≡ refusedOf a p
+    record { answer = a; path = p; budget = u; flow = x } ≡ refusedOf a p
 refused-is a p u x e f = rw (e, f)
 
 -- ---- `solve`
@@ -107,7 +107,14 @@ module _ (b : Board) (q : Bool) (d : Decides q (WellFormed b)) where
   pub is-formed : not q ≡ false → WellFormed b
   is-formed on = d .yes (not-false q on)
 
--- ---- loads and their first times
+-- ---- a board that can be solved
+pub so-prepared : (b : Board) → Solvable b → (due : ℕ) → due ≡ usable b → (net : List ℕ) → NetworkIn b net → Prepared b net due
+so-prepared b can due e net n = record { can = can; network = n; due-is = e }
+
+pub so-answers : (b : Board) (due : ℕ) → due ≡ usable b → (net w : List ℕ) → Found b due net w → Answers b w
+so-answers b due e net w f = record { net = net; found = rw e at f }
+
+-- loads and their first times
 module _ (b : Board) (can : Solvable b) (N : Net) (w : Wired (view b) N) (t x : List ℕ) (f : First N (usable b) (cells x) (cells t))
     (s : Sheet (N .arcs) (N .tail) (N .head) (cells x)) where
   abbrev τ : Times
@@ -116,15 +123,15 @@ module _ (b : Board) (can : Solvable b) (N : Net) (w : Wired (view b) N) (t x : 
   held : Held (view b) (usable b) τ
   held = first-held (view b) (lawful b (can .formed)) N w (usable b) (cells x) (cells t) f (s .balanced)
 
-  pub first-settled : Budgeted b t
+  first-settled : Budgeted b t
   first-settled = record { formed = can .formed; budget = held .budget }
 
   first-holds : (r : Budget) → r ≡ valueOf b τ → Holds b r
   first-holds r e = rw e (value-holds b (can .formed) τ held)
 
-  first-reason : (r : Budget) → r ≡ valueOf b τ → Reason b r x
+  first-reason : (r : Budget) → r ≡ valueOf b τ → ((a : ℕ) → loadsOf b ≤ a → cells x a ≡ 0) → Reason b r x
   unfolding view
-  first-reason r e =
+  first-reason r e past =
       let o = lawful b (can .formed) in
       let same = value-alike b (can .formed) τ (held .budget) in
       rw e
@@ -132,82 +139,58 @@ module _ (b : Board) (can : Solvable b) (N : Net) (w : Wired (view b) N) (t x : 
         conserves = balanced-conserves (view b) o N w (cells x) (s .balanced);
         slack = alike-slack (view b) o same (first-slack (view b) o N w (usable b) (cells x) (cells t) f);
         small = λ a h. s .small a (omega (arith, w .arcs));
+        past = past;
       })
 
-  pub first-solves : (r : Budget) (p : Trail) (done : Work) → r ≡ valueOf b τ → p ≡ trailOf [] → Solves b (record { answer = Done; path = p; budget = r; flow = x; work = done })
-  first-solves r p done e listed = record {
-    path = [];
-    verdict = solvable-fine b can;
-    listed = listed;
-    holds = λ _. first-holds r e;
-    reason = λ _. first-reason r e;
-    blank = λ why place e. never (sym e);
-    idle = λ why place e. never (sym e);
-  }
+-- ---- `answer_of`
+module _ (b : Board) (w : List ℕ) (ans : Answers b w) where
+  abbrev can : Solvable b
+  can = ans .found .prepared .can
 
--- ---- the main loop
-module _ (b : Board) (can : Solvable b) (arcs : ℕ) (tail head base lengths savings : List ℕ) (n : NetworkOf b arcs tail head base lengths savings) where
-  abbrev N : Net
-  N = netOf arcs tail head base lengths savings
-
-  pub world : World N (usable b)
-  world = board-world b (can .formed) N (n .wired) (can .fastest) (can .in-time)
-
-  pub wide : Wide arcs tail head base lengths savings (usable b)
-  wide = record { sound = n .sound; curved = n .curved; world = world }
-
--- ---- the ways through the code
-module _ (b : Board) (arcs : ℕ) (tail head base lengths savings : List ℕ) (due : ℕ) (ok : Prepared b arcs tail head base lengths savings due) where
   abbrev M : Net
-  M = netOf arcs tail head base lengths savings
+  M = netIn (ans .net)
 
-  pub due-small : due ≤ 4095
-  unfolding usable
-  due-small = omega (arith, ok .due-is, ok .can .formed .deadline-to)
+  wired : Wired (view b) M
+  wired = ans .found .prepared .network .wired
 
-  pub laid-wide : Wide arcs tail head base lengths savings due
-  laid-wide = rw (ok .due-is) (wide b (ok .can) arcs tail head base lengths savings (ok .network))
+  sheet : Sheet (M .arcs) (M .tail) (M .head) (cells (loadIn w))
+  unfolding SheetIn
+  sheet = ans .found .proves .sheet
 
-  module _ (x t : List ℕ) where
-    pub not-taken : Accepts M due x t false
-    not-taken = record { taken = λ q. absurd (let z : _≡_ {A = ℕ} 0 1 = cc in omega arith) }
+  pub answers-settled : Budgeted b (timeIn w)
+  answers-settled = first-settled b can M wired (timeIn w) (loadIn w) (ans .found .proves .first) sheet
 
-    pub judged : (q r : Bool) → Says q (Sheet arcs (cells tail) (cells head) (cells x)) → not q ≡ false → Decided M due (cells x) (cells t) r → Accepts M due x t r
-    judged q r s n v = record { taken = λ e. record { sheet = s .yes (not-false q n); first = v .yes e } }
+  pub loads-fit-2 : Fits w64 (b .parts + b .links)
+  loads-fit-2 = omega (arith, can .formed .parts-to, can .formed .links-to)
 
-    module _ (p : Proves M due x t) where
-      first-of : First M (usable b) (cells x) (cells t)
-      first-of = rw (ok .due-is) at (p .first)
+  pub loads-fit-3 : Fits w64 (b .parts + b .links + b .parts)
+  loads-fit-3 = omega (arith, can .formed .parts-to, can .formed .links-to)
 
-      pub proves-settled : Budgeted b t
-      proves-settled = first-settled b (ok .can) M (ok .network .wired) t x first-of (p .sheet)
+  pub loads-fit : Fits w64 (b .parts + b .links + b .parts + b .parts)
+  loads-fit = omega (arith, can .formed .parts-to, can .formed .links-to)
 
-      pub proves-solves :
-          (r : Budget) (p : Trail) (done : Work) → r ≡ valueOf b (timesOf (view b) (cells t)) → p ≡ trailOf [] →
-          Solves b (record { answer = Done; path = p; budget = r; flow = x; work = done })
-      proves-solves = first-solves b (ok .can) M (ok .network .wired) t x first-of (p .sheet)
+  pub loads-few : b .parts + b .links + b .parts + b .parts ≤ 448
+  loads-few = omega (arith, can .formed .parts-to, can .formed .links-to)
 
-    pub taken-proves : (r : Bool) → Accepts M due x t r → r ≡ true → Proves M due x t
-    taken-proves r a = a .taken
+  module _ (r : Budget) (p : Trail) (flow : List ℕ) (e : r ≡ valueOf b (timesOf (view b) (cells (timeIn w)))) (listed : p ≡ trailOf [])
+      (read : FlowIn w (b .parts + b .links + b .parts + b .parts) flow) where
+    same-load : (a : ℕ) → a < M .arcs → cells flow a ≡ cells (loadIn w) a
+    unfolding view
+    same-load a h = read .loads a (omega (arith, wired .arcs))
 
-  module _ (t₀ x₀ : List ℕ) (slow : Slowest b due t₀) (idle : x₀ ≡ noLoads) where
-    begun-usable : Begun (slow .schedule .start) (slow .schedule .end) (usable b) t₀
-    begun-usable = rw (ok .due-is) at (slow .begun)
+    flow-first : First M (usable b) (cells flow) (cells (timeIn w))
+    flow-first = first-agrees M (usable b) (cells (loadIn w)) (cells flow) same-load (cells (timeIn w)) (ans .found .proves .first)
 
-    pub begun-good : Good M t₀ x₀
-    begun-good = slowest-good b (ok .can) M (ok .network .wired) (slowestsOf b) refl (slow .schedule) (slow .timed) t₀ begun-usable x₀ idle
+    flow-sheet : Sheet (M .arcs) (M .tail) (M .head) (cells flow)
+    flow-sheet = sheet-agrees M (cells (loadIn w)) (cells flow) same-load sheet
 
-    pub crashed-proves : (t x : List ℕ) → Crashed M due t₀ x₀ t x → (u : List ℕ) (r : Bool) → Decided M due (cells x) (cells u) r → Proves M due x u
-    crashed-proves t x c u r v =
-        let w : World M due = rw (ok .due-is) (world b (ok .can) arcs tail head base lengths savings (ok .network)) in
-        record {
-          sheet = record { small = c .good .small; balanced = c .good .flows .balanced };
-          first = crashed-first M due w t₀ x₀ t x c (slow .begun .placed .due-late) u r v;
-        }
-
-pub slowest-begun :
-    (b : Board) → Solvable b → (due : ℕ) (d : List ℕ) → (WellFormed b → d ≡ slowestsOf b) → (s : Schedule) → (Timeable b d → TimesOf b d s) →
-    (t : List ℕ) → Begun (s .start) (s .end) due t → Slowest b due t
-slowest-begun b can due d said s timed t begun =
-    let is : d ≡ slowestsOf b = said (can .formed) in
-    record { schedule = s; timed = rw is at (timed (slowest-timeable b (can .formed) (can .ranked) d is)); begun = begun }
+    pub answers-solves : Solves b (record { answer = Done; path = p; budget = r; flow = flow })
+    answers-solves = record {
+      path = [];
+      verdict = solvable-fine b can;
+      listed = listed;
+      holds = λ _. first-holds b can M wired (timeIn w) flow flow-first flow-sheet r e;
+      reason = λ _. first-reason b can M wired (timeIn w) flow flow-first flow-sheet r e (λ a h. read .past a (omega arith));
+      blank = λ why place q. never (sym q);
+      idle = λ why place q. never (sym q);
+    }

@@ -4,13 +4,12 @@
 -- Assumes nothing.
 use mathlib.Core.Path.{_≡_}
 use mathlib.Core.List.{List}
-use Prim.Native.Nat.{ℕ, _+_, _≤_, _<_}
+use Prim.Native.Nat.{ℕ, _≤_, _<_}
 use lib.ListN.{replicate}
 use Rattle.refusal.specs.declared.Why.{Why}
 use Rattle.refusal.specs.declared.Answer.{Answer}
 use Rattle.refusal.specs.declared.Answer.the-variants.{Done, Refused}
-use Rattle.theory.specs.Sum.{cells}
-use Rattle.theory.specs.Graph.{Ranked, Conserves, Slack}
+use Rattle.theory.specs.Graph.{Ranked}
 use Rattle.theory.specs.Budget.{Timed}
 use Rattle.board.specs.declared.Board.{Board}
 use Rattle.board.specs.Board.{WellFormed, view, usable}
@@ -18,18 +17,11 @@ use Rattle.slow.specs.declared.Trail.{Trail}
 use Rattle.slow.specs.Walk.{trailOf}
 use Rattle.budget.specs.declared.Budget.{Budget}
 use Rattle.budget.specs.Budget.{Holds}
-use Rattle.budget.specs.Made.{timesIn}
+use Rattle.budget.specs.Reason.{Reason}
 use Rattle.solver.specs.declared.Solved.{Solved}
-use Rattle.solver.specs.Wired.{flowOf}
 use Rattle.solver.specs.Verdict.{Verdict}
 
--- ---- what is asked and promised
--- why a budget is cheapest: loads of parts, links, entries and exits, in that order, that conserve and leave no slack, none above 64,000
-pub record Reason (b : Board) (r : Budget) (flow : List ℕ) : Type 0 where
-  pub conserves : Conserves (view b) (flowOf (view b) (cells flow))
-  pub slack : Slack (view b) (usable b) (timesIn b r) (flowOf (view b) (cells flow))
-  pub small : (a : ℕ) → a < b .parts + (b .links + (b .parts + b .parts)) → cells flow a ≤ 64000
-
+-- ---- what is promised
 -- no budget
 unfoldable pub noBudget : Budget
 noBudget = record { start = replicate 64 0; delay = replicate 64 0; end = replicate 64 0; power = replicate 64 0; total = 0 }
@@ -51,13 +43,7 @@ pub record Solves (b : Board) (r : Solved) : Type 0 where
 -- ---- its steps
 -- a board that is refused
 abbrev pub refusedOf : Answer → Trail → Solved
-refusedOf answer path = record {
-  answer = answer;
-  path = path;
-  budget = noBudget;
-  flow = noLoads;
-  work = record { pushes = 0; lowerings = 0; rounds = 0 };
-}
+refusedOf answer path = record { answer = answer; path = path; budget = noBudget; flow = noLoads }
 
 -- a board without a loop whose fastest delays do not exceed the deadline
 pub record Solvable (b : Board) : Type 0 where

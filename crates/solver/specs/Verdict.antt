@@ -1,20 +1,17 @@
 -- What a board as a whole is refused for, with the path that is shown.
 -- Assumes nothing.
 use mathlib.Core.List.{List, []}
-use Prim.Native.Nat.{ℕ, _≤_, _<_}
+use Prim.Native.Nat.{ℕ}
 use Rattle.refusal.specs.declared.Answer.{Answer}
-use Rattle.refusal.specs.declared.Answer.the-variants.{Done, Refused}
-use Rattle.refusal.specs.declared.Why.the-variants.{Looped, TooSlow}
+use Rattle.refusal.specs.declared.Answer.the-variants.{Done}
+use Rattle.refusal.specs.Refusal.{refusal}
 use Rattle.board.specs.declared.Board.{Board}
-use Rattle.board.specs.Board.{usable, view}
-use Rattle.board.specs.Path.{LoopFree}
+use Rattle.board.specs.Leads.{LoopFree}
 use Rattle.cone.specs.Cone.{LowestOnLoop}
-use Rattle.slow.specs.Slow.{FastestEnds, LastPart, Walked}
+use Rattle.slow.specs.Slow.{InTime, SlowPath}
 
 -- "After the last link come 8, 9, 10": what a well-formed board is refused for, with the path that is shown, or that nothing is
 pub data Verdict (b : Board) : Answer → List ℕ → Type 0 where
-  looped : {p : ℕ} → LowestOnLoop b p → Verdict b (Refused Looped p) []
-  slow :
-      {e : ℕ → ℕ} {p : ℕ} {path : List ℕ} → LoopFree b → FastestEnds b e → LastPart (view b) e p → usable b < e p → Walked (view b) e p path →
-      Verdict b (Refused TooSlow (e p)) path
-  fine : {e : ℕ → ℕ} → LoopFree b → FastestEnds b e → ((p : ℕ) → p < b .parts → e p ≤ usable b) → Verdict b Done []
+  looped : {p : ℕ} → LowestOnLoop b p → Verdict b (refusal 9 p) []
+  slow : {ticks : ℕ} {path : List ℕ} → LoopFree b → SlowPath b ticks path → Verdict b (refusal 10 ticks) path
+  fine : LoopFree b → InTime b → Verdict b Done []

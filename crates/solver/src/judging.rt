@@ -8,7 +8,7 @@ ghost use mathlib.Core.Path.{_≡_};
 ghost use mathlib.Core.List.{[]};
 ghost use Rattle.board.specs.Board.{WellFormed};
 ghost use Rattle.slow.specs.Walk.{trailOf};
-ghost use Rattle.solver.specs.Judge.{Timely, JudgedOf};
+ghost use Rattle.solver.specs.Judging.{Timely, JudgedOf};
 
 // What a board as a whole is refused for, with the path shown at refusal 10.
 pub(crate) struct Judged {

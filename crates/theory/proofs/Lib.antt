@@ -19,3 +19,6 @@ pub mod Trail
 pub mod Search
 pub mod StrongDuality
 pub mod Existence
+pub mod Turning
+pub mod LatestLaws
+pub mod LatestEndsLaws

@@ -17,10 +17,10 @@ use Rattle.curve.specs.Curve.{slowestOf}
 use Rattle.curve.proofs.CurveLaws.{slowest-to}
 use Rattle.board.specs.declared.Board.{Board}
 use Rattle.board.specs.Board.{curveAt, linkAt, view, WellFormed}
+use Rattle.board.proofs.Lawful.{delay-to, wire-to}
 use Rattle.times.specs.declared.Schedule.{Schedule}
 use Rattle.times.specs.Times.{fastestsOf, slowestAt, slowestsOf, Joined, Timeable, TimesOf}
 use Rattle.times.proofs.TableLaws.{firsts-at}
-use Rattle.times.proofs.Loops.{wire-at}
 use Rattle.board.proofs.Lawful.{lawful}
 
 -- two lists of 64 places that hold the same at the parts and 0 past them
@@ -50,7 +50,7 @@ module _ (b : Board) (delay : List ℕ) (ok : Timeable b delay) (r : Schedule) (
       omega (
         arith,
         end-to i (linkAt b k .from) (ok .formed .from-in k m) (omega (arith, ok .ranked .rises k m, ap (ok .ranked .rank) q)),
-        wire-at b k,
+        wire-to b (ok .formed) k m,
       ))) in
       omega (arith, t .timed .ends p h, ok .delays-to p h)
 
@@ -66,6 +66,7 @@ module _ (b : Board) (delay : List ℕ) (ok : Timeable b delay) (r : Schedule) (
     links-to = ok .formed .links-to;
     from-in = λ l i. omega (arith, ok .formed .from-in l i, ok .formed .parts-to);
     to-in = λ l i. omega (arith, ok .formed .to-in l i, ok .formed .parts-to);
+    delays-to = delay-to b (ok .formed);
     ends-to = λ p i. omega (arith, times-to p);
   }
 

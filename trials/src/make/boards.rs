@@ -81,6 +81,12 @@ pub fn board_of(shape: Shape, curves: Curves, haste: Haste, rng: &mut Rng) -> Bo
     sized_board(parts, shape, curves, haste, rng)
 }
 
+/// A board whose file has every field: a part with a run, and a link.
+pub fn with_every_field() -> Board {
+    let sloped = Curve { fastest: 2, power: 100, runs: vec![Run { length: 2, saving: 20 }] };
+    Board { deadline: 10, curves: vec![sloped, flat(1)], links: BTreeSet::from([(0, 1)]) }
+}
+
 /// A board with so few budgets that most often all can be tried.
 pub fn tiny_board(rng: &mut Rng) -> Board {
     let parts = rng.between(1, 7) as usize;

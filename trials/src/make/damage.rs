@@ -5,10 +5,33 @@ use crate::file::{bytes_of, design_numbers, number_bytes, order_numbers, Order};
 use crate::rng::Rng;
 
 /// Numbers at or next to the end of some field's range or form.
-const EDGES: [u32; 27] = [
+const EDGES: [u32; 31] = [
     0, 1, 2, 3, 4, 5, 6, 62, 63, 64, 65, 127, 128, 255, 256, 257, 1_000, 1_001, 1_023, 1_024, 4_095, 4_096,
-    16_383, 16_384, 2_000_000, 2_000_001, 2_097_151,
+    16_383, 16_384, 2_000_000, 2_000_001, 2_097_151, 2_097_152, 20_000_000, 20_000_001, 268_435_455,
 ];
+
+/// Forms of four groups: the least, the greatest, one that promises a fifth
+/// group, and one that is not the shortest.
+const FOUR_GROUPS: [[u8; 4]; 4] =
+    [[0x80, 0x80, 0x80, 0x01], [0xff, 0xff, 0xff, 0x7f], [0x80; 4], [0x80, 0x80, 0x80, 0x00]];
+
+/// Each number of a file in turn at every edge and in each form of four
+/// groups, and the file cut after each byte of that form.
+pub fn edges(board: &Board) -> Vec<Vec<u8>> {
+    let numbers = design_numbers(board);
+    let mut damaged = Vec::new();
+    for place in 0..numbers.len() {
+        let (before, after) = (bytes_of(&numbers[..place]), bytes_of(&numbers[place + 1..]));
+        for edge in EDGES {
+            damaged.push([&before[..], &number_bytes(edge), &after].concat());
+        }
+        for form in FOUR_GROUPS {
+            damaged.push([&before[..], &form, &after].concat());
+            damaged.extend((1..=4).map(|length| [&before, &form[..length]].concat()));
+        }
+    }
+    damaged
+}
 
 /// One change at each place of a file: its high bit, its neighbours, the ends
 /// of a group; each cut; each byte doubled; and the file twice.
@@ -85,8 +108,8 @@ fn numbers(numbers: &[u32], rng: &mut Rng) -> Vec<u8> {
         4 => number_bytes(number + 1),
         5 => number_bytes(number.saturating_sub(1)),
         6 => longer(number),
-        7 => vec![0x80, 0x80, 0x80, 0x01],
-        8 => number_bytes(1 << 21),
+        7 => vec![0x80, 0x80, 0x80, 0x80, 0x01],
+        8 => number_bytes(1 << 28),
         _ => number_bytes(numbers[rng.below(numbers.len())]),
     };
     [bytes_of(&numbers[..place]), instead, bytes_of(&numbers[place + 1..])].concat()

@@ -59,7 +59,7 @@ impl Session {
         self.desk.order(&bytes(hex), &mut self.tally)
     }
 
-    pub fn refused(&mut self, hex: &str) -> (u32, u32, Vec<usize>) {
+    pub fn refused(&mut self, hex: &str) -> (u32, u64, Vec<usize>) {
         let refusal = self.order(hex).verdict.expect_err("the order is refused");
         (refusal.number, refusal.place, refusal.path)
     }

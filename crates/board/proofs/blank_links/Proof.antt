@@ -1,13 +1,15 @@
 -- `board::blank_links` meets its contract.
 -- Assumes nothing.
-use mathlib.Core.Path.{refl}
-use Rattle.board.specs.Tests.{blankLinks}
+use Rattle.board.proofs.Steps.{no-link}
+use borrow.Author.Needs.{needs}
 use Rattle.board.proofs.blank_links.Statement.{statement}
 use Rattle.board.proofs.blank_links.Tie as tie
 
+plain-link-requires : tie.Need-plain-link-requires
+plain-link-requires c κs = search needs
+
 returns : tie.Need-returns
-unfolding blankLinks
-returns c = refl
+returns c = search (no-link)
 
 pub blank-links-spec : {M : Type 1} → statement M
-blank-links-spec = tie.close (tie.spec returns)
+blank-links-spec = tie.close (tie.spec plain-link-requires returns)

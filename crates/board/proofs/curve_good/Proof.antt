@@ -1,5 +1,6 @@
 use Rattle.board.specs.Tests.{curveGood}
 use Rattle.base.specs.Pick.{pick}
+use Rattle.board.proofs.TestLaws.{curve-good-is}
 use Rattle.base.proofs.Tests.{tests}
 use borrow.Author.Needs.{needs}
 use Rattle.board.proofs.curve_good.Statement.{statement}
@@ -15,8 +16,7 @@ is-good-requires c κs = search needs
 
 -- src/lib.rt:175:9
 returns : tie.Need-returns
-unfolding curveGood pick
-returns c = search tests
+returns c = search (curve-good-is)
 
 -- src/lib.rt:177:5
 curve-blank-requires : tie.Need-curve-blank-requires

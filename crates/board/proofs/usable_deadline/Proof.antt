@@ -1,15 +1,15 @@
 -- `board::usable_deadline` meets its contract.
 -- Assumes nothing.
-use Rattle.board.specs.Board.{usable}
-use mathlib.Core.Path.{refl}
+use Rattle.board.proofs.Steps.{under-rule}
+use borrow.Author.Needs.{needs}
 use Rattle.board.proofs.usable_deadline.Statement.{statement}
 use Rattle.board.proofs.usable_deadline.Tie as tie
-use Rattle.board.proofs.usable_deadline.Reads as reads
-use Rattle.board.proofs.usable_deadline.Lts as lts
+
+usable-under-requires : tie.Need-usable-under-requires
+usable-under-requires c κs = search needs
 
 returns : tie.Need-returns
-unfolding usable
-returns c = refl
+returns c = search (under-rule)
 
 pub usable-deadline-spec : {M : Type 1} → statement M
-usable-deadline-spec = tie.close (tie.spec returns)
+usable-deadline-spec = tie.close (tie.spec usable-under-requires returns)

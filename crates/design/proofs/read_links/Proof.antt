@@ -11,6 +11,7 @@ use Rattle.design.proofs.read_links.Statement.{statement}
 use Rattle.design.proofs.read_links.Tie as tie
 use Rattle.design.proofs.read_links.Reads as reads
 use Rattle.design.proofs.read_links.Lts as lts
+use Rattle.board.proofs.plain_link.Reads as plain-link-reads
 use Rattle.design.proofs.links_stopped.Reads as links-stopped-reads
 use Rattle.design.proofs.no_links.Reads as no-links-reads
 use Rattle.design.proofs.read_link.Reads as read-link-reads
@@ -21,42 +22,58 @@ Inv-loop s parts links at link₀ before₀ next₀ l₀ link before next l = (l
 abbrev μ-loop : tie.MeasureT-loop
 μ-loop s parts links at link₀ before₀ next₀ l₀ link before next l = links - l
 
+-- src/lib.rt:186:20
 no-links-requires : tie.Need-no-links-requires Inv-loop μ-loop
 no-links-requires c κs = search needs
 
+-- src/lib.rt:187:9
+plain-link-requires : tie.Need-plain-link-requires Inv-loop μ-loop
+plain-link-requires c κs = search needs
+
+-- src/lib.rt:190:5
 loop-holds : tie.Need-loop-holds Inv-loop μ-loop
 loop-holds c = (search needs, search (links-start), search (none-before), search (links-long))
 
+-- src/lib.rt:191:13
 read-link-requires : tie.Need-read-link-requires Inv-loop μ-loop
 read-link-requires c κs = search needs
 
 enum-told : tie.Need-enum-told Inv-loop μ-loop
 enum-told c = search needs
 
+-- src/lib.rt:194:13
 enum-told-2 : tie.Need-enum-told-2 Inv-loop μ-loop
 enum-told-2 c = search needs
 
+-- src/lib.rt:194:13
 links-stopped-requires : tie.Need-links-stopped-requires Inv-loop μ-loop
 links-stopped-requires c κs = search needs
 
+-- src/lib.rt:194:13
 returns : tie.Need-returns Inv-loop μ-loop
 returns c = search (links-fault)
 
+-- src/lib.rt:197:9
 mul-link : tie.Need-mul-link Inv-loop μ-loop
 mul-link c = search needs
 
+-- src/lib.rt:197:9
 array-set-from-link : tie.Need-array-set-from-link Inv-loop μ-loop
 array-set-from-link c = search needs
 
+-- src/lib.rt:199:13
 add-l : tie.Need-add-l Inv-loop μ-loop
 add-l c = search needs
 
+-- src/lib.rt:190:5
 loop-less : tie.Need-loop-less Inv-loop μ-loop
 loop-less c = search needs
 
+-- src/lib.rt:190:5
 loop-again : tie.Need-loop-again Inv-loop μ-loop
 loop-again c = (search needs, search (links-on), last-before (c .before .before .before .before .before .loop .link) (c .before .before .before .before .before .loop .l) _ (search needs) (search needs), search (still-long))
 
+-- src/lib.rt:182:1
 returns-2 : tie.Need-returns-2 Inv-loop μ-loop
 returns-2 c = search (links-end)
 
@@ -67,6 +84,7 @@ read-links-spec =
     Inv-loop
     μ-loop
     no-links-requires
+    plain-link-requires
     loop-holds
     read-link-requires
     enum-told

@@ -1,6 +1,7 @@
 use mathlib.Core.Path.{_≡_}
 use Prim.Native.Nat.{_≤_, _-_, _*_}
 use lib.ListN.{length}
+use Rattle.groups.specs.Number.{groups}
 use Rattle.design.specs.Design.{linksBytes}
 use Rattle.fields.proofs.WritingLaws.{row-none, row-counted}
 use Rattle.design_write.proofs.Ways.{row-counted-all}
@@ -12,7 +13,7 @@ use Rattle.design_write.proofs.links_size.Lts as lts
 use Rattle.design_write.proofs.link_size.Reads as link-size-reads
 
 abbrev Inv-loop : tie.InvT-loop
-Inv-loop b links bytes₀ l₀ bytes l = (l ≤ links) × (bytes ≡ length (linksBytes b l)) × (bytes ≤ 6 * l)
+Inv-loop b links bytes₀ l₀ bytes l = (l ≤ links) × (bytes ≡ length (linksBytes b l)) × (bytes ≤ 2 * groups * l)
 
 abbrev μ-loop : tie.MeasureT-loop
 μ-loop b links bytes₀ l₀ bytes l = links - l

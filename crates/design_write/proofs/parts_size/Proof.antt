@@ -1,6 +1,7 @@
 use mathlib.Core.Path.{_≡_}
 use Prim.Native.Nat.{_≤_, _-_, _*_}
 use lib.ListN.{length}
+use Rattle.groups.specs.Number.{groups}
 use Rattle.design.specs.Design.{partsBytes}
 use Rattle.fields.proofs.WritingLaws.{row-none, row-counted}
 use Rattle.design_write.proofs.Ways.{row-counted-all}
@@ -12,7 +13,7 @@ use Rattle.design_write.proofs.parts_size.Lts as lts
 use Rattle.fields.proofs.curve_size.Reads as curve-size-reads
 
 abbrev Inv-loop : tie.InvT-loop
-Inv-loop b parts bytes₀ p₀ bytes p = (p ≤ parts) × (bytes ≡ length (partsBytes b p)) × (bytes ≤ 33 * p)
+Inv-loop b parts bytes₀ p₀ bytes p = (p ≤ parts) × (bytes ≡ length (partsBytes b p)) × (bytes ≤ 11 * groups * p)
 
 abbrev μ-loop : tie.MeasureT-loop
 μ-loop b parts bytes₀ p₀ bytes p = parts - p

@@ -1,211 +1,41 @@
-use Rattle.desk.proofs.Ordering.{counts-yes, counts-no}
+use Rattle.base.specs.Pick.{pick}
+use Rattle.base.proofs.Tests.{tests}
+use Rattle.refusal.specs.Refusal.{among}
 use borrow.Author.Needs.{needs}
 use Rattle.desk.proofs.is_counted.Statement.{statement}
 use Rattle.desk.proofs.is_counted.Tie as tie
-use Rattle.desk.proofs.is_counted.Reads as reads
-use Rattle.desk.proofs.is_counted.Lts as lts
 
--- src/lib.rt:336:30
-enum-told : tie.Need-enum-told
-enum-told c = search needs
-
--- src/lib.rt:337:24
-enum-told-2 : tie.Need-enum-told-2
-enum-told-2 c = search needs
-
--- src/lib.rt:338:25
-enum-told-3 : tie.Need-enum-told-3
-enum-told-3 c = search needs
-
--- src/lib.rt:339:27
-enum-told-4 : tie.Need-enum-told-4
-enum-told-4 c = search needs
-
--- src/lib.rt:340:29
-enum-told-5 : tie.Need-enum-told-5
-enum-told-5 c = search needs
-
--- src/lib.rt:341:27
-enum-told-6 : tie.Need-enum-told-6
-enum-told-6 c = search needs
-
--- src/lib.rt:342:24
-enum-told-7 : tie.Need-enum-told-7
-enum-told-7 c = search needs
-
--- src/lib.rt:343:26
-enum-told-8 : tie.Need-enum-told-8
-enum-told-8 c = search needs
-
--- src/lib.rt:344:29
-enum-told-9 : tie.Need-enum-told-9
-enum-told-9 c = search needs
-
--- src/lib.rt:345:30
-enum-told-10 : tie.Need-enum-told-10
-enum-told-10 c = search needs
-
--- src/lib.rt:346:28
-enum-told-11 : tie.Need-enum-told-11
-enum-told-11 c = search needs
-
--- src/lib.rt:347:32
-enum-told-12 : tie.Need-enum-told-12
-enum-told-12 c = search needs
-
--- src/lib.rt:348:35
-enum-told-13 : tie.Need-enum-told-13
-enum-told-13 c = search needs
-
--- src/lib.rt:349:28
-enum-told-14 : tie.Need-enum-told-14
-enum-told-14 c = search needs
-
--- src/lib.rt:350:25
-enum-told-15 : tie.Need-enum-told-15
-enum-told-15 c = search needs
-
--- src/lib.rt:351:29
-enum-told-16 : tie.Need-enum-told-16
-enum-told-16 c = search needs
-
--- src/lib.rt:352:29
-enum-told-17 : tie.Need-enum-told-17
-enum-told-17 c = search needs
-
--- src/lib.rt:353:27
-enum-told-18 : tie.Need-enum-told-18
-enum-told-18 c = search needs
-
--- src/lib.rt:354:26
-enum-told-19 : tie.Need-enum-told-19
-enum-told-19 c = search needs
-
--- src/lib.rt:355:25
-enum-told-20 : tie.Need-enum-told-20
-enum-told-20 c = search needs
-
--- src/lib.rt:332:1
 returns : tie.Need-returns
-returns c = search (counts-yes, counts-no)
+unfolding among pick
+returns c = search tests
 
--- src/lib.rt:332:1
 returns-2 : tie.Need-returns-2
-returns-2 c = search (counts-yes, counts-no)
+unfolding among pick
+returns-2 c = search tests
 
--- src/lib.rt:332:1
 returns-3 : tie.Need-returns-3
-returns-3 c = search (counts-yes, counts-no)
+unfolding among pick
+returns-3 c = search tests
 
--- src/lib.rt:332:1
 returns-4 : tie.Need-returns-4
-returns-4 c = search (counts-yes, counts-no)
+unfolding among pick
+returns-4 c = search tests
 
--- src/lib.rt:332:1
 returns-5 : tie.Need-returns-5
-returns-5 c = search (counts-yes, counts-no)
+unfolding among pick
+returns-5 c = search tests
 
--- src/lib.rt:332:1
 returns-6 : tie.Need-returns-6
-returns-6 c = search (counts-yes, counts-no)
+unfolding among pick
+returns-6 c = search tests
 
--- src/lib.rt:332:1
 returns-7 : tie.Need-returns-7
-returns-7 c = search (counts-yes, counts-no)
+unfolding among pick
+returns-7 c = search tests
 
--- src/lib.rt:332:1
 returns-8 : tie.Need-returns-8
-returns-8 c = search (counts-yes, counts-no)
-
--- src/lib.rt:332:1
-returns-9 : tie.Need-returns-9
-returns-9 c = search (counts-yes, counts-no)
-
--- src/lib.rt:332:1
-returns-10 : tie.Need-returns-10
-returns-10 c = search (counts-yes, counts-no)
-
--- src/lib.rt:332:1
-returns-11 : tie.Need-returns-11
-returns-11 c = search (counts-yes, counts-no)
-
--- src/lib.rt:332:1
-returns-12 : tie.Need-returns-12
-returns-12 c = search (counts-yes, counts-no)
-
--- src/lib.rt:332:1
-returns-13 : tie.Need-returns-13
-returns-13 c = search (counts-yes, counts-no)
-
--- src/lib.rt:332:1
-returns-14 : tie.Need-returns-14
-returns-14 c = search (counts-yes, counts-no)
-
--- src/lib.rt:332:1
-returns-15 : tie.Need-returns-15
-returns-15 c = search (counts-yes, counts-no)
-
--- src/lib.rt:332:1
-returns-16 : tie.Need-returns-16
-returns-16 c = search (counts-yes, counts-no)
-
--- src/lib.rt:332:1
-returns-17 : tie.Need-returns-17
-returns-17 c = search (counts-yes, counts-no)
-
--- src/lib.rt:332:1
-returns-18 : tie.Need-returns-18
-returns-18 c = search (counts-yes, counts-no)
-
--- src/lib.rt:332:1
-returns-19 : tie.Need-returns-19
-returns-19 c = search (counts-yes, counts-no)
-
--- src/lib.rt:332:1
-returns-20 : tie.Need-returns-20
-returns-20 c = search (counts-yes, counts-no)
+unfolding among pick
+returns-8 c = search tests
 
 pub is-counted-spec : {M : Type 1} → statement M
-is-counted-spec =
-    tie.close
-    (tie.spec
-    enum-told
-    enum-told-2
-    enum-told-3
-    enum-told-4
-    enum-told-5
-    enum-told-6
-    enum-told-7
-    enum-told-8
-    enum-told-9
-    enum-told-10
-    enum-told-11
-    enum-told-12
-    enum-told-13
-    enum-told-14
-    enum-told-15
-    enum-told-16
-    enum-told-17
-    enum-told-18
-    enum-told-19
-    enum-told-20
-    returns
-    returns-2
-    returns-3
-    returns-4
-    returns-5
-    returns-6
-    returns-7
-    returns-8
-    returns-9
-    returns-10
-    returns-11
-    returns-12
-    returns-13
-    returns-14
-    returns-15
-    returns-16
-    returns-17
-    returns-18
-    returns-19
-    returns-20)
+is-counted-spec = tie.close (tie.spec returns returns-2 returns-3 returns-4 returns-5 returns-6 returns-7 returns-8)

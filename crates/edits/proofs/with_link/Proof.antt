@@ -14,6 +14,9 @@ has-link-requires c κs = search needs
 returns-2 : tie.Need-returns-2
 returns-2 c = search (no-room, link-there, link-added)
 
+plain-link-requires : tie.Need-plain-link-requires
+plain-link-requires c κs = search needs
+
 place-of-requires : tie.Need-place-of-requires
 place-of-requires c κs = search needs
 
@@ -33,6 +36,7 @@ with-link-spec =
     returns
     has-link-requires
     returns-2
+    plain-link-requires
     place-of-requires
     inserted-requires
     add-next

@@ -11,6 +11,9 @@ has-link-requires c κs = search needs
 returns : tie.Need-returns
 returns c = search (link-missing, link-removed)
 
+plain-link-requires : tie.Need-plain-link-requires
+plain-link-requires c κs = search needs
+
 place-of-requires : tie.Need-place-of-requires
 place-of-requires c κs = search needs
 
@@ -26,4 +29,4 @@ returns-2 c = search (link-missing, link-removed)
 pub without-link-spec : {M : Type 1} → statement M
 without-link-spec =
     tie.close
-    (tie.spec has-link-requires returns place-of-requires removed-requires sub-next returns-2)
+    (tie.spec has-link-requires returns plain-link-requires place-of-requires removed-requires sub-next returns-2)

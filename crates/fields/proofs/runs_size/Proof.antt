@@ -1,6 +1,7 @@
 use mathlib.Core.Path.{_≡_}
 use Prim.Native.Nat.{_≤_, _-_, _*_}
 use lib.ListN.{length}
+use Rattle.groups.specs.Number.{groups}
 use Rattle.fields.specs.CurveFile.{runsBytes}
 use Rattle.fields.proofs.CurveWriting.{runs-counted-none, runs-counted, finished-size}
 use borrow.Author.Needs.{needs}
@@ -11,7 +12,7 @@ use Rattle.fields.proofs.runs_size.Lts as lts
 use Rattle.fields.proofs.run_size.Reads as run-size-reads
 
 abbrev Inv-loop : tie.InvT-loop
-Inv-loop c count bytes₀ i₀ bytes i = (i ≤ count) × (bytes ≡ length (runsBytes c i)) × (bytes ≤ 6 * i)
+Inv-loop c count bytes₀ i₀ bytes i = (i ≤ count) × (bytes ≡ length (runsBytes c i)) × (bytes ≤ 2 * groups * i)
 
 abbrev μ-loop : tie.MeasureT-loop
 μ-loop c count bytes₀ i₀ bytes i = count - i

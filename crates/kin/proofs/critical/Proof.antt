@@ -26,8 +26,8 @@ array-read-s c = search needs
 returns-3 : tie.Need-returns-3
 returns-3 c = search (too-early)
 
-wire-requires : tie.Need-wire-requires
-wire-requires c κs = search needs
+link-delay-requires : tie.Need-link-delay-requires
+link-delay-requires c κs = search needs
 
 returns-4 : tie.Need-returns-4
 returns-4 c = search (compared)
@@ -43,5 +43,5 @@ critical-spec =
     mul-s
     array-read-s
     returns-3
-    wire-requires
+    link-delay-requires
     returns-4)

@@ -7,12 +7,13 @@ use Rattle.numbers.proofs.main.Lts as lts
 use Rattle.numbers.proofs.form.Reads as form-reads
 use Rattle.numbers.proofs.number.Reads as number-reads
 use Rattle.numbers.proofs.read_places.Reads as read-places-reads
+use Rattle.numbers.proofs.read_prefixes.Reads as read-prefixes-reads
 
 abbrev Inv-loop : tie.InvT-loop
-Inv-loop boundaries i₀ t3 t4 t5 t6 t7 t8 t9 t10 t11 t12 t13 i = Unit
+Inv-loop boundaries i₀ t3 t4 t5 t6 t7 t8 t9 t10 t11 t12 t13 t14 t15 i = Unit
 
 abbrev μ-loop : tie.MeasureT-loop
-μ-loop boundaries i₀ t3 t4 t5 t6 t7 t8 t9 t10 t11 t12 t13 i = 8 - i
+μ-loop boundaries i₀ t3 t4 t5 t6 t7 t8 t9 t10 t11 t12 t13 t14 t15 i = 12 - i
 
 -- src/main.rt:105:5
 loop-holds : tie.Need-loop-holds Inv-loop μ-loop
@@ -58,93 +59,109 @@ loop-again c = search needs
 number-requires-2 : tie.Need-number-requires-2 Inv-loop μ-loop
 number-requires-2 c κs = search needs
 
--- src/main.rt:111:17
+-- src/main.rt:131:17
 slice-aggregate-read-places : tie.Need-slice-aggregate-read-places Inv-loop μ-loop
 slice-aggregate-read-places c = search needs
 
--- src/main.rt:111:5
+-- src/main.rt:131:5
 read-places-requires : tie.Need-read-places-requires Inv-loop μ-loop
 read-places-requires c κs = search needs
 
--- src/main.rt:112:17
+-- src/main.rt:132:17
 slice-aggregate-read-places-2 : tie.Need-slice-aggregate-read-places-2 Inv-loop μ-loop
 slice-aggregate-read-places-2 c = search needs
 
--- src/main.rt:112:5
+-- src/main.rt:132:5
 read-places-requires-2 : tie.Need-read-places-requires-2 Inv-loop μ-loop
 read-places-requires-2 c κs = search needs
 
--- src/main.rt:113:17
+-- src/main.rt:133:17
 slice-aggregate-read-places-3 : tie.Need-slice-aggregate-read-places-3 Inv-loop μ-loop
 slice-aggregate-read-places-3 c = search needs
 
--- src/main.rt:113:5
+-- src/main.rt:133:5
 read-places-requires-3 : tie.Need-read-places-requires-3 Inv-loop μ-loop
 read-places-requires-3 c κs = search needs
 
--- src/main.rt:114:17
+-- src/main.rt:134:17
 slice-aggregate-read-places-4 : tie.Need-slice-aggregate-read-places-4 Inv-loop μ-loop
 slice-aggregate-read-places-4 c = search needs
 
--- src/main.rt:114:5
+-- src/main.rt:134:5
 read-places-requires-4 : tie.Need-read-places-requires-4 Inv-loop μ-loop
 read-places-requires-4 c κs = search needs
 
--- src/main.rt:115:17
+-- src/main.rt:135:17
 slice-aggregate-read-places-5 : tie.Need-slice-aggregate-read-places-5 Inv-loop μ-loop
 slice-aggregate-read-places-5 c = search needs
 
--- src/main.rt:115:5
+-- src/main.rt:135:5
 read-places-requires-5 : tie.Need-read-places-requires-5 Inv-loop μ-loop
 read-places-requires-5 c κs = search needs
 
--- src/main.rt:116:17
+-- src/main.rt:136:17
 slice-aggregate-read-places-6 : tie.Need-slice-aggregate-read-places-6 Inv-loop μ-loop
 slice-aggregate-read-places-6 c = search needs
 
--- src/main.rt:116:5
+-- src/main.rt:136:5
 read-places-requires-6 : tie.Need-read-places-requires-6 Inv-loop μ-loop
 read-places-requires-6 c κs = search needs
 
--- src/main.rt:117:17
+-- src/main.rt:137:17
 slice-aggregate-read-places-7 : tie.Need-slice-aggregate-read-places-7 Inv-loop μ-loop
 slice-aggregate-read-places-7 c = search needs
 
--- src/main.rt:117:5
+-- src/main.rt:137:5
 read-places-requires-7 : tie.Need-read-places-requires-7 Inv-loop μ-loop
 read-places-requires-7 c κs = search needs
 
--- src/main.rt:118:17
+-- src/main.rt:138:17
 slice-aggregate-read-places-8 : tie.Need-slice-aggregate-read-places-8 Inv-loop μ-loop
 slice-aggregate-read-places-8 c = search needs
 
--- src/main.rt:118:5
+-- src/main.rt:138:5
 read-places-requires-8 : tie.Need-read-places-requires-8 Inv-loop μ-loop
 read-places-requires-8 c κs = search needs
 
--- src/main.rt:119:17
+-- src/main.rt:139:17
 slice-aggregate-read-places-9 : tie.Need-slice-aggregate-read-places-9 Inv-loop μ-loop
 slice-aggregate-read-places-9 c = search needs
 
--- src/main.rt:119:5
+-- src/main.rt:139:5
 read-places-requires-9 : tie.Need-read-places-requires-9 Inv-loop μ-loop
 read-places-requires-9 c κs = search needs
 
--- src/main.rt:120:17
-slice-aggregate-read-places-10 : tie.Need-slice-aggregate-read-places-10 Inv-loop μ-loop
-slice-aggregate-read-places-10 c = search needs
+-- src/main.rt:140:19
+slice-aggregate-read-prefixes : tie.Need-slice-aggregate-read-prefixes Inv-loop μ-loop
+slice-aggregate-read-prefixes c = search needs
 
--- src/main.rt:120:5
-read-places-requires-10 : tie.Need-read-places-requires-10 Inv-loop μ-loop
-read-places-requires-10 c κs = search needs
+-- src/main.rt:140:5
+read-prefixes-requires : tie.Need-read-prefixes-requires Inv-loop μ-loop
+read-prefixes-requires c κs = search needs
 
--- src/main.rt:121:17
-slice-aggregate-read-places-11 : tie.Need-slice-aggregate-read-places-11 Inv-loop μ-loop
-slice-aggregate-read-places-11 c = search needs
+-- src/main.rt:141:19
+slice-aggregate-read-prefixes-2 : tie.Need-slice-aggregate-read-prefixes-2 Inv-loop μ-loop
+slice-aggregate-read-prefixes-2 c = search needs
 
--- src/main.rt:121:5
-read-places-requires-11 : tie.Need-read-places-requires-11 Inv-loop μ-loop
-read-places-requires-11 c κs = search needs
+-- src/main.rt:141:5
+read-prefixes-requires-2 : tie.Need-read-prefixes-requires-2 Inv-loop μ-loop
+read-prefixes-requires-2 c κs = search needs
+
+-- src/main.rt:142:19
+slice-aggregate-read-prefixes-3 : tie.Need-slice-aggregate-read-prefixes-3 Inv-loop μ-loop
+slice-aggregate-read-prefixes-3 c = search needs
+
+-- src/main.rt:142:5
+read-prefixes-requires-3 : tie.Need-read-prefixes-requires-3 Inv-loop μ-loop
+read-prefixes-requires-3 c κs = search needs
+
+-- src/main.rt:143:19
+slice-aggregate-read-prefixes-4 : tie.Need-slice-aggregate-read-prefixes-4 Inv-loop μ-loop
+slice-aggregate-read-prefixes-4 c = search needs
+
+-- src/main.rt:143:5
+read-prefixes-requires-4 : tie.Need-read-prefixes-requires-4 Inv-loop μ-loop
+read-prefixes-requires-4 c κs = search needs
 
 -- src/main.rt:102:1
 returns : tie.Need-returns Inv-loop μ-loop
@@ -185,8 +202,12 @@ main-spec =
     read-places-requires-8
     slice-aggregate-read-places-9
     read-places-requires-9
-    slice-aggregate-read-places-10
-    read-places-requires-10
-    slice-aggregate-read-places-11
-    read-places-requires-11
+    slice-aggregate-read-prefixes
+    read-prefixes-requires
+    slice-aggregate-read-prefixes-2
+    read-prefixes-requires-2
+    slice-aggregate-read-prefixes-3
+    read-prefixes-requires-3
+    slice-aggregate-read-prefixes-4
+    read-prefixes-requires-4
     returns)

@@ -1,6 +1,7 @@
 use native.Mathlib.Omega.{arith}
 use Rattle.numbers.proofs.Prefix.{prefix-length}
-use Prim.Native.Nat.{_-_}
+use Prim.Native.Nat.{_+_, _-_}
+use Rattle.groups.specs.Number.{groups}
 use borrow.Author.Needs.{needs}
 use Rattle.numbers.proofs.number.Statement.{statement}
 use Rattle.numbers.proofs.number.Tie as tie
@@ -16,7 +17,7 @@ abbrev Inv-loop : tie.InvT-loop
 Inv-loop n k₀ k = Unit
 
 abbrev μ-loop : tie.MeasureT-loop
-μ-loop n k₀ k = 5 - k
+μ-loop n k₀ k = groups + 2 - k
 
 -- src/main.rt:79:11
 slice-aggregate-print : tie.Need-slice-aggregate-print Inv-loop μ-loop

@@ -13,7 +13,7 @@ use Rattle.slow.proofs.backs.Lts as lts
 use Rattle.slow.proofs.all.Reads as all-reads
 use Rattle.slow.proofs.awaited.Reads as awaited-reads
 use Rattle.slow.proofs.lesser.Reads as lesser-reads
-use Rattle.times.proofs.wire.Reads as wire-reads
+use Rattle.board.proofs.link_delay.Reads as link-delay-reads
 
 abbrev Inv-loop : tie.InvT-loop
 Inv-loop n link s e back₀ k₀ back k = (k ≤ n) × (Joined link n e → back ≡ backsOf link s e k)
@@ -45,8 +45,8 @@ mul-awaited c = search needs
 array-read-awaited : tie.Need-array-read-awaited Inv-loop μ-loop
 array-read-awaited c = search needs
 
-wire-requires : tie.Need-wire-requires Inv-loop μ-loop
-wire-requires c κs = search needs
+link-delay-requires : tie.Need-link-delay-requires Inv-loop μ-loop
+link-delay-requires c κs = search needs
 
 mul-awaited-2 : tie.Need-mul-awaited-2 Inv-loop μ-loop
 mul-awaited-2 c = search needs
@@ -92,7 +92,7 @@ backs-spec =
     array-read-lesser
     mul-awaited
     array-read-awaited
-    wire-requires
+    link-delay-requires
     mul-awaited-2
     array-read-awaited-2
     awaited-requires

@@ -19,7 +19,7 @@ use Rattle.slow.specs.declared.ShownPath.{ShownPath}
 use Rattle.slow.specs.Walk.{trailOf}
 use Rattle.slow.specs.Slow.{Loopless, shown, inTime, SlowOf, kept, exceeded}
 use Rattle.solver.specs.Verdict.{looped, slow, fine}
-use Rattle.solver.specs.Judge.{Timely, JudgedOf}
+use Rattle.solver.specs.Judging.{Timely, JudgedOf}
 
 off-on : {A : Type 0} {t : Bool} → t ≡ false → t ≡ true → A
 off-on off on = absurd (let z : _≡_ {A = ℕ} 0 1 = cc in omega arith)
@@ -46,16 +46,16 @@ shown-trail s ticks path is = rw is
 
 module _ (b : Board) (ok : Timely b) (s : ShownPath) where
   time-kept : (p : Trail) → SlowOf b s → not (s .slow) ≡ true → p ≡ trailOf [] → JudgedOf b (record { answer = Done; path = p })
-  time-kept p (kept f within is) off listed = record { path = []; verdict = fine (ok .free) f within; listed = listed }
-  time-kept p (exceeded {e = e} {p = q} {path = path} f last over walk is) off listed = off-on (not-true (s .slow) off) (shown-yes s (e q) path is)
+  time-kept p (kept k is) off listed = record { path = []; verdict = fine (ok .free) k; listed = listed }
+  time-kept p (exceeded {ticks = ticks} {path = path} x is) off listed = off-on (not-true (s .slow) off) (shown-yes s ticks path is)
 
   pub in-time : (p : Trail) → (Loopless b → SlowOf b s) → not (s .slow) ≡ true → p ≡ trailOf [] → JudgedOf b (record { answer = Done; path = p })
   in-time p said = time-kept p (said (timely-loopless b ok))
 
   time-exceeded : SlowOf b s → not (s .slow) ≡ false → JudgedOf b (record { answer = Refused TooSlow (s .ticks); path = record { count = s .count; parts = s .path } })
-  time-exceeded (kept f within is) on = off-on (in-time-no s is) (not-false (s .slow) on)
-  time-exceeded (exceeded {e = e} {p = q} {path = path} f last over walk is) on =
-      rw (shown-ticks s (e q) path is) (record { path = path; verdict = slow (ok .free) f last over walk; listed = shown-trail s (e q) path is })
+  time-exceeded (kept k is) on = off-on (in-time-no s is) (not-false (s .slow) on)
+  time-exceeded (exceeded {ticks = ticks} {path = path} x is) on =
+      rw (shown-ticks s ticks path is) (record { path = path; verdict = slow (ok .free) x; listed = shown-trail s ticks path is })
 
   pub too-slow :
       (Loopless b → SlowOf b s) → not (s .slow) ≡ false → JudgedOf b (record { answer = Refused TooSlow (s .ticks); path = record { count = s .count; parts = s .path } })

@@ -7,7 +7,7 @@ use Prim.Native.Nat.{ℕ, zero, suc, _+_, _-_, _*_, _/_, _%_, _≤_, _<_}
 use native.Mathlib.Omega.{arith}
 use lib.ListN.{length, List·getD-eq-default, getD-replicate}
 use Rattle.base.proofs.Cases.{lt-or-le}
-use Rattle.theory.specs.Sum.{sum}
+use Rattle.theory.specs.Sum.{sum, cells}
 use Rattle.theory.specs.Saving.{tick}
 use Rattle.theory.proofs.SumLaws.{sum-ext, sum-zero, sum-split}
 use Rattle.curve.specs.declared.Run.{Run}
@@ -16,10 +16,9 @@ use Rattle.curve.specs.Curve.{Good, noRun, lengthAt, savingAt, ticksOf, slowest
 use Rattle.curve.proofs.CurveLaws.{slowest-to}
 use Rattle.board.specs.declared.Board.{Board}
 use Rattle.board.specs.Board.{WellFormed, view, curveAt, blankCurve}
-use Rattle.solver.specs.Net.{gainOf, Bends}
-use Rattle.solver.specs.Net as net
-use Rattle.solver.proofs.network.Gains.{tick-blank, gain-none}
-use Rattle.solver.specs.Laid.{RunsLaid}
+use Rattle.nets.specs.Net.{gainOf, Bends}
+use Rattle.nets.specs.Net as net
+use Rattle.nets.proofs.Gains.{tick-blank, gain-none}
 
 -- ---- ticks of runs that are the same
 tick-ext : (L L′ S S′ : ℕ → ℕ) (r : ℕ) → ((i : ℕ) → i < r → L i ≡ L′ i) → ((i : ℕ) → i < r → S i ≡ S′ i) → (j : ℕ) → tick L S r j ≡ tick L′ S′ r j
@@ -74,7 +73,14 @@ unfolding savingAt blankCurve
 blank-saving i h = ap (λ (r : Run). r .saving .0) (getD-replicate 4 i noRun noRun h)
 
 -- ---- the arcs
-module _ (b : Board) (ok : WellFormed b) (lengths savings : List ℕ) (laid : RunsLaid b 256 lengths savings) where
+-- the runs of all places for a part, four to a part
+pub record Runs (b : Board) (lengths savings : List ℕ) : Type 0 where
+  pub run-length : (i : ℕ) → i < 256 → cells lengths i ≡ lengthAt (curveAt b (i / 4)) (i % 4)
+  pub run-saving : (i : ℕ) → i < 256 → cells savings i ≡ savingAt (curveAt b (i / 4)) (i % 4)
+  pub length-room : length lengths ≡ 256
+  pub saving-room : length savings ≡ 256
+
+module _ (b : Board) (ok : WellFormed b) (lengths savings : List ℕ) (laid : Runs b lengths savings) where
   module _ (a i : ℕ) (h : i < 4) where
     length-is : a < 64 → net.lengthAt lengths a i ≡ lengthAt (curveAt b a) i
     length-is l =
@@ -121,9 +127,9 @@ module _ (b : Board) (ok : WellFormed b) (lengths savings : List ℕ) (laid : Ru
             omega (arith, four-fall c good i l, saving-is p i (omega arith) k, saving-is p (suc i) l k);
       }
 
-  pub flat-bends : (a : ℕ) → b .parts ≤ a → Bends 0 lengths savings a
-  flat-bends a h = record {
-    short = omega arith;
+  pub flat-bends : (base : ℕ) → base ≤ 4095 → (a : ℕ) → b .parts ≤ a → Bends base lengths savings a
+  flat-bends base short a h = record {
+    short = short;
     slowest = λ _. omega (arith, sum-ext 4 {f = net.lengthAt lengths a} {g = λ i. 0} (λ i l. length-flat a i l h), sum-zero 4);
     falls = λ _ i l. omega (arith, saving-flat a (suc i) l h);
   }

@@ -11,7 +11,7 @@ use Rattle.times.proofs.starts.Reads as reads
 use Rattle.times.proofs.starts.Lts as lts
 use Rattle.curve.proofs.Ticks.plus.Reads as plus-reads
 use Rattle.times.proofs.larger.Reads as larger-reads
-use Rattle.times.proofs.wire.Reads as wire-reads
+use Rattle.board.proofs.link_delay.Reads as link-delay-reads
 use Rattle.times.proofs.zeros.Reads as zeros-reads
 
 abbrev Inv-loop : tie.InvT-loop
@@ -38,8 +38,8 @@ mul-s c = search (scaled, from-below, to-below, needs)
 array-read-s : tie.Need-array-read-s Inv-loop μ-loop
 array-read-s c = search (scaled, from-below, to-below, needs)
 
-wire-requires : tie.Need-wire-requires Inv-loop μ-loop
-wire-requires c κs = search needs
+link-delay-requires : tie.Need-link-delay-requires Inv-loop μ-loop
+link-delay-requires c κs = search needs
 
 plus-requires : tie.Need-plus-requires Inv-loop μ-loop
 plus-requires c κs = search needs
@@ -83,7 +83,7 @@ starts-spec =
     array-copy-out-l
     mul-s
     array-read-s
-    wire-requires
+    link-delay-requires
     plus-requires
     mul-larger
     array-read-larger

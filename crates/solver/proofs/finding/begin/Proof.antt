@@ -1,8 +1,8 @@
 -- `finding::begin` meets its contract.
 -- Assumes nothing.
 use Prim.Native.Nat.{_-_, _≤_}
-use Rattle.solver.specs.Steps.{Placing}
-use Rattle.solver.proofs.Steps.{place-none, place-more, place-done}
+use Rattle.solver.specs.Finding.{Placing}
+use Rattle.solver.proofs.finding.Placing.{place-none, place-more, place-done}
 use borrow.Author.Needs.{needs}
 use Rattle.solver.proofs.finding.begin.Statement.{statement}
 use Rattle.solver.proofs.finding.begin.Tie as tie

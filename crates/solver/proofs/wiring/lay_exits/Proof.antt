@@ -1,17 +1,17 @@
 -- `wiring::lay_exits` meets its contract.
 -- Assumes nothing.
-use Prim.Native.Nat.{_+_, _-_, _≤_}
-use Rattle.solver.specs.Laid.{Laid}
-use Rattle.solver.proofs.wiring.Laying.{laid-none, laid-done, exits-more}
+use Prim.Native.Nat.{_-_, _≤_}
+use Rattle.solver.specs.Wiring.{LaidIn, exitSpan}
+use Rattle.solver.proofs.wiring.Laying.{laid-none, laid-done, exits-more, exit-in}
 use borrow.Author.Needs.{needs}
 use Rattle.solver.proofs.wiring.lay_exits.Statement.{statement}
 use Rattle.solver.proofs.wiring.lay_exits.Tie as tie
 
 abbrev Inv-loop : tie.InvT-loop
-Inv-loop tail₀ head₀ base₀ parts first p₀ tail head base p = (p ≤ parts) × Laid first p (λ q. 64 + q) (λ q. 129) (λ q. 0) tail₀ head₀ base₀ tail head base
+Inv-loop net₀ parts first p₀ net p = (p ≤ parts) × LaidIn first p exitSpan net₀ net
 
 abbrev μ-loop : tie.MeasureT-loop
-μ-loop tail₀ head₀ base₀ parts first p₀ tail head base p = parts - p
+μ-loop net₀ parts first p₀ net p = parts - p
 
 add-first : tie.Need-add-first Inv-loop μ-loop
 add-first c = search needs
@@ -20,7 +20,7 @@ add-first-2 : tie.Need-add-first-2 Inv-loop μ-loop
 add-first-2 c = search needs
 
 loop-holds : tie.Need-loop-holds Inv-loop μ-loop
-loop-holds c = (search needs, laid-none _ _ _ _ _ _ _)
+loop-holds c = (search needs, laid-none _ _ _)
 
 add-put : tie.Need-add-put Inv-loop μ-loop
 add-put c = search needs
@@ -29,7 +29,7 @@ add-put-2 : tie.Need-add-put-2 Inv-loop μ-loop
 add-put-2 c = search needs
 
 put-requires : tie.Need-put-requires Inv-loop μ-loop
-put-requires c κs = search needs
+put-requires c κs = (search (exit-in), (search needs, search needs))
 
 add-p : tie.Need-add-p Inv-loop μ-loop
 add-p c = search needs

@@ -1,21 +1,20 @@
 -- `wiring::lay_links` meets its contract.
 -- Assumes nothing.
-use Prim.Native.Nat.{_+_, _-_, _≤_}
-use Rattle.solver.specs.Laid.{Laid}
-use Rattle.board.specs.Board.{view}
-use Rattle.solver.proofs.wiring.Laying.{laid-none, laid-done, links-more, link-in, from-fits}
+use Prim.Native.Nat.{_-_, _≤_}
+use Rattle.solver.specs.Wiring.{LaidIn, linkSpan}
+use Rattle.solver.proofs.wiring.Laying.{laid-none, laid-done, links-more, link-in, from-fits, from-in, to-in}
 use borrow.Author.Needs.{needs}
 use Rattle.solver.proofs.wiring.lay_links.Statement.{statement}
 use Rattle.solver.proofs.wiring.lay_links.Tie as tie
 
 abbrev Inv-loop : tie.InvT-loop
-Inv-loop tail₀ head₀ base₀ b parts links l₀ tail head base l = (l ≤ b .links) × Laid (b .parts) l (λ i. 64 + view b .from i) (view b .to) (view b .wire) tail₀ head₀ base₀ tail head base
+Inv-loop net₀ b parts links l₀ net l = (l ≤ b .links) × LaidIn (b .parts) l (linkSpan b) net₀ net
 
 abbrev μ-loop : tie.MeasureT-loop
-μ-loop tail₀ head₀ base₀ b parts links l₀ tail head base l = b .links - l
+μ-loop net₀ b parts links l₀ net l = b .links - l
 
 loop-holds : tie.Need-loop-holds Inv-loop μ-loop
-loop-holds c = (search needs, laid-none _ _ _ _ _ _ _)
+loop-holds c = (search needs, laid-none _ _ _)
 
 mul-link : tie.Need-mul-link Inv-loop μ-loop
 mul-link c = search needs
@@ -29,8 +28,11 @@ add-put c = search needs
 add-put-2 : tie.Need-add-put-2 Inv-loop μ-loop
 add-put-2 c = search (from-fits)
 
+link-delay-requires : tie.Need-link-delay-requires Inv-loop μ-loop
+link-delay-requires c κs = search needs
+
 put-requires : tie.Need-put-requires Inv-loop μ-loop
-put-requires c κs = search (link-in)
+put-requires c κs = (search (link-in), (search (from-in), search (to-in)))
 
 add-l : tie.Need-add-l Inv-loop μ-loop
 add-l c = search needs
@@ -55,6 +57,7 @@ lay-links-spec =
     element-copy-out-link
     add-put
     add-put-2
+    link-delay-requires
     put-requires
     add-l
     loop-less

@@ -1,0 +1,7 @@
+pub mod Gains
+pub mod Regions
+pub mod Steps
+pub mod Arcs
+pub mod Bridge
+pub mod Nodes
+pub mod Worlds

@@ -1,0 +1,10 @@
+pub mod Net
+pub mod Flow
+pub mod Wired
+pub mod Judge
+pub mod Label
+pub mod Steps
+pub mod Layout
+pub mod Region
+pub mod Crash
+pub mod Sheet
