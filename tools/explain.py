@@ -165,7 +165,8 @@ def byte_line(source, place, of_orders=False):
         raise one_fault(name, f"there is no byte {place}; {file} has {len(data)} bytes")
     where, words = byte_words(source, place, of_orders)
     line = unpacked_line(source, datafile.field_at(fields, place).key)
-    return f"{where}: byte {place} of {file}: {words}" + (f", in `{line}`" if line else "")
+    said = f"byte {place} of {file}: {words}" if where != f"{name}: byte {place}" else words
+    return f"{where}: {said}" + (f", in `{line}`" if line else "")
 
 
 def unpacked_line(source, key):

@@ -128,7 +128,9 @@ def binary_board(path):
     source.fields = reader.fields
     if source.board is not None:
         source.names = names[: len(source.board.curves)]
-        source.notes = [note for part, note in enumerate(notes[: len(source.names)]) if note]
+        source.notes = [note for note in notes[: len(source.names)] if note]
+        if not sheet:
+            source.notes = [Fault(sheet_path, "there are no names; parts are called P0, P1 and so on here")]
         source.lines = lines_of_fields(reader.fields, list(source.board.links), path)
     return source
 

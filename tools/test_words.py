@@ -202,6 +202,11 @@ class Refused(unittest.TestCase):
             (["--order-byte", "4"], "orders.txt:2: byte 4 of orders.dat: the to of order 2, in `add A C`"),
         ]:
             self.assertEqual(self.run_words("explain", "board.txt", "orders.txt", *words), (0, said + "\n", ""))
+        self.assertEqual(self.run_words("pack", "board.txt", "--out", "packed")[0], 0)
+        os.remove(os.path.join(self.place, "packed", "names.txt"))
+        said = "packed/board.dat: byte 7: the saving of run 1 of part 0 (P0), in `part P0 fastest 2 power 9 runs 1@5`\n"
+        note = "boddivarn: note: packed/names.txt: there are no names; parts are called P0, P1 and so on here\n"
+        self.assertEqual(self.run_words("explain", "packed", "--byte", "7"), (0, said, note))
         none = (1, "", "board.txt: there is no byte 9999; board.dat has 19 bytes\n")
         self.assertEqual(self.run_words("explain", "board.txt", "--byte", "9999"), none)
         self.assertEqual(self.run_words("explain", "board.txt", "--order-byte", "0"), (1, "", "board.txt: there are no orders beside this board\n"))
