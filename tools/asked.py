@@ -5,7 +5,7 @@ import limits
 import programs
 from faults import CannotRun
 
-LOAD, ORDER, POWER, STATE = 3, 4, 7, 13
+RULE, LOAD, ORDER, POWER, STATE = 1, 3, 4, 7, 13
 # The words that begin a call's own line, and so end what a state says.
 OPENINGS = {"load", "order", "tally", "power", "up", "down", "label", "write", "held", "stopped"}
 
@@ -35,6 +35,10 @@ class State:
     latest_ends: list = None
     late: list = None  # of (start, delay, end)
 
+    def load(self):
+        """The call that loads what is held once more."""
+        return load(self.file, self.rule or "A")
+
     @property
     def last_tick(self):
         return self.deadline if self.usable is None else self.usable
@@ -44,8 +48,9 @@ def number(n):
     return n.to_bytes(8, "little")
 
 
-def load(data):
-    return bytes([LOAD]) + number(len(data)) + data
+def load(data, rule):
+    """A load under a rule, which is named first; to name it prints nothing."""
+    return bytes([RULE]) + number("AB".index(rule)) + bytes([LOAD]) + number(len(data)) + data
 
 
 def order(data):

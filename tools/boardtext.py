@@ -17,7 +17,7 @@ def forms():
     """The lines that a board and an order may have: those of today's program."""
     board, orders = dict(BOARD_FORMS), dict(ORDER_FORMS)
     if limits.RULES_KNOWN:
-        board["rule"] = "rule A or rule B"
+        board["rule"] = "rule A|B"
     if limits.LINK_DELAYS_KNOWN:
         board["link"] = "link FROM TO [TICKS]"
         orders["delay"] = "delay FROM TO TICKS"

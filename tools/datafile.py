@@ -24,8 +24,8 @@ def curve_bytes(curve):
 
 
 def board_bytes(board):
-    """A design file: of version 1 where that can hold the board."""
-    version_2 = board.rule != "A" or any(board.links.values())
+    """A design file: of version 1 where that can hold the board, or where no other is known; the rule is then named beside it."""
+    version_2 = limits.LINK_DELAYS_KNOWN and (board.rule != "A" or any(board.links.values()))
     out = encoded(2, "AB".index(board.rule)) if version_2 else encoded(1)
     out += encoded(board.deadline, len(board.curves)) + b"".join(map(curve_bytes, board.curves)) + encoded(len(board.links))
     for (source, target), ticks in sorted(board.links.items()):

@@ -14,7 +14,7 @@ import report
 import worth
 from boardtext import board_text, order_text
 from faults import CannotRun, InputFaults, WrongUse, one_fault
-from limits import READS
+from limits import LINK_DELAYS_KNOWN, READS
 from model import counted
 from sources import source_of
 from story import tell
@@ -31,6 +31,8 @@ def plan(words):
     source = source_of(words.board, words.orders)
     say_notes(source)
     with programs.ready():
+        if rule_is_lost(source):
+            return plan_by_calls(source)
         table = programs.run("boddivarn", {"board.dat": source.board_data, "orders.dat": source.orders_data, "names.txt": source.sheet})
         sys.stdout.buffer.write(table)
         sys.stdout.flush()
@@ -40,6 +42,29 @@ def plan(words):
     if refused_lines(story) != re.findall(r"^(?:refused|order \d+ refused|stopped) .*$", table.decode("ascii"), re.M):
         raise CannotRun("the two programs do not refuse the same")
     return say_refusals(story)
+
+
+def rule_is_lost(source):
+    """Whether the board has a rule that its file does not say: the program would plan it under rule A."""
+    return source.rule != "A" and not LINK_DELAYS_KNOWN
+
+
+def plan_by_calls(source):
+    """The same lines of a board that the program cannot be handed, by the same library."""
+    story = tell(source)
+    say("the program names rule A; under rule B the program calls has planned this board")
+    sys.stdout.write(table_of(story))
+    return DONE if story.is_clean else say_refusals(story)
+
+
+def table_of(story):
+    """The lines that the program prints of a story."""
+    lines = refused_lines(story)
+    if not story.load.no:
+        lines.append("part label start delay end power")
+        lines += [" ".join(map(str, (part, story.source.name(part), *row))) for part, row in enumerate(story.state.parts)]
+        lines += [f"total {story.state.total}", f"orders {story.taken} taken {story.refused} refused"]
+    return "".join(line + "\n" for line in lines)
 
 
 def refused_lines(story):
@@ -150,6 +175,8 @@ def pack(words):
     """The files that the program reads."""
     source = source_of(words.board, words.orders)
     say_notes(source)
+    if rule_is_lost(source):
+        raise one_fault(source.lines["rule"], f"rule {source.rule} cannot be packed: a design file of version 1 does not say it, and the program names A")
     files = {"board.dat": source.board_data, "orders.dat": source.orders_data, "names.txt": source.sheet}
     for name, data in files.items():
         if len(data) > READS[name]:
@@ -182,9 +209,13 @@ def unpack(words):
 # ---- what goes out
 
 
+def say(words):
+    print(f"boddivarn: note: {words}", file=sys.stderr)
+
+
 def say_notes(source):
     for note in source.notes:
-        print(f"boddivarn: note: {note}", file=sys.stderr)
+        say(note)
 
 
 def say_refusals(story):

@@ -21,6 +21,6 @@ READS = {"board.dat": 2_048, "orders.dat": 65_536, "names.txt": 4_096}
 # No text is longer than this; what is, is no board.
 LONGEST_TEXT = 32 * 1024 * 1024
 
-# Words of the text that a later program knows. One switch each; both need design files of version 2.
-RULES_KNOWN = False  # "rule A" and "rule B" on a board
-LINK_DELAYS_KNOWN = False  # "link FROM TO TICKS" on a board, "delay FROM TO TICKS" as an order
+# Words of the text that not every program knows; one switch each.
+RULES_KNOWN = True  # "rule A" and "rule B" on a board
+LINK_DELAYS_KNOWN = False  # design files of version 2: "link FROM TO TICKS" on a board, "delay FROM TO TICKS" as an order

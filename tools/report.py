@@ -9,7 +9,7 @@ MOST_PATHS = 20
 
 def asked_powers(story):
     """What the next tick of each part would save, by the planner's own powers; None at the slowest."""
-    calls = [asked.load(story.state.file)]
+    calls = [story.state.load()]
     for part, (_, delay, _, _) in enumerate(story.state.parts):
         calls += [asked.power(part, delay), asked.power(part, delay + 1)]
     answers = asked.ask(calls)[1:]

@@ -32,6 +32,11 @@ class Source:
     def name(self, part):
         return namer(self.names)(part)
 
+    @property
+    def rule(self):
+        """The rule that a load names; the program names A."""
+        return self.board.rule if self.board else "A"
+
 
 def source_of(board_path, orders_path=None):
     """Reads everything that is named; every fault of the texts at once."""

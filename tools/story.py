@@ -97,7 +97,7 @@ CHUNK = 400  # orders to a run of the program, where every state between is aske
 
 def tell(source, changes=False):
     """Loads the board and gives it the orders; with what each changed where that is asked for."""
-    load, state = asked.ask([asked.load(source.board_data), asked.state()])
+    load, state = asked.ask([asked.load(source.board_data, source.rule), asked.state()])
     story = Story(source, load)
     if load.no:
         return story
@@ -107,7 +107,7 @@ def tell(source, changes=False):
         give_orders(story, source.orders[at:at + size], changes)
     rest = source.orders_data[source.read_to:]
     if rest:
-        _, story.stopped = asked.ask([asked.load(story.state.file), asked.order(rest)])
+        _, story.stopped = asked.ask([story.state.load(), asked.order(rest)])
     checked(story)
     return story
 
@@ -115,7 +115,7 @@ def tell(source, changes=False):
 def give_orders(story, lines, changes):
     """Some orders, given to the board as it stands."""
     rows = [datafile.order_bytes(line.order) for line in lines]
-    calls = [asked.load(story.state.file)]
+    calls = [story.state.load()]
     for row in rows:
         calls += [asked.order(row)] + ([asked.state()] if changes else [])
     answers = iter(asked.ask(calls + [asked.state()])[1:])
@@ -143,6 +143,7 @@ def add_step(story, step, length):
 def checked(story):
     """What is told here must be the planner's own: the board that it holds, and the order that it cannot read."""
     held = datafile.Reader(story.state.file, "state").board(story.source.name)
+    held.rule = story.state.rule or "A"
     if held != story.ledger.board:
         raise CannotRun("the planner holds another board than these orders make")
     if story.stopped and (story.stopped.no == 0 or story.stopped.took):

@@ -63,6 +63,13 @@ class Board(unittest.TestCase):
             said, faults = read_board(text, "b")
             self.assertEqual((faults, said.board), ([], plain))
 
+    def test_rules(self):
+        for text, rule in ((K_TEXT, "A"), (b"rule A\n" + K_TEXT, "A"), (K_TEXT + b"rule B\n", "B")):
+            said, faults = read_board(text, "b")
+            self.assertEqual((faults, said.board.rule, board_bytes(said.board)), ([], rule, K_FILE))
+        self.assertEqual(read_board(board_text(said.board, said.names).encode(), "b")[0].board, said.board)
+        self.assertEqual(self.faults(b"rule A\n" + K_TEXT + b"rule A\n"), ["b:11: a second rule; the first stands at b:1"])
+
     def test_a_name_may_hold_a_sharp(self):
         said, faults = read_board(b"deadline 3\npart A#1 fastest 1 power 0 #comment\n", "b")
         self.assertEqual((faults, said.names), ([], ["A#1"]))
@@ -76,7 +83,7 @@ class Board(unittest.TestCase):
             "b:3: no part is called 'NONE'",
             "b:4: no part is called 'NEITHER'",
             "b:4: no part is called 'NOR'",
-            "b:5: 'board' is none of deadline, part, link",
+            "b:5: 'board' is none of deadline, part, link, rule",
             "b:6: a second part 'A'; the first stands at b:2",
             "b:6: saving 2 is not below the 2 of the run before; savings fall from run to run",
             "b:6: power 1 is below all savings together, 4; raise it or shorten a run",
@@ -117,7 +124,9 @@ class Board(unittest.TestCase):
             ("part A fastest 1 power 99 runs 1@9 1@8 1@7 1@6 1@5", "5 runs, at most 4"),
             ("part " + "A" * 17 + " fastest 1 power 0", f"'{'A' * 17}' is no name: a name sheet holds 1 to 16 ASCII characters without a blank"),
             ("link A", "no part is called 'A'", "a part's name is missing; write: link FROM TO"),
-            ("rule B", "'rule' is none of deadline, part, link"),
+            ("rule", "the rule is missing; write: rule A|B"),
+            ("rule C", "rule 'C' is neither A nor B"),
+            ("rule B B", "'B' is one word too many; write: rule A|B"),
         ]:
             with self.subTest(line=line[:40]):
                 self.assertEqual(self.only(line), [f"b:1: {fault}" for fault in faults])
@@ -255,10 +264,12 @@ class Later(unittest.TestCase):
     """The words that wait for design files of version 2, with their switches on."""
 
     def setUp(self):
+        before = limits.RULES_KNOWN, limits.LINK_DELAYS_KNOWN
         limits.RULES_KNOWN = limits.LINK_DELAYS_KNOWN = True
+        self.addCleanup(self.put_back, *before)
 
-    def tearDown(self):
-        limits.RULES_KNOWN = limits.LINK_DELAYS_KNOWN = False
+    def put_back(self, rules, delays):
+        limits.RULES_KNOWN, limits.LINK_DELAYS_KNOWN = rules, delays
 
     def test_both_ways(self):
         text = "deadline 128\nrule B\npart A fastest 1 power 0\npart B fastest 2 power 0\nlink A B 7\n"

@@ -41,9 +41,10 @@ class Guide(unittest.TestCase):
         self.assertIn(f"**Links**, 0 to {limits.MOST_LINKS},", self.text)
 
     def test_every_line_of_the_text_format(self):
-        for form in boardtext.BOARD_FORMS.values():
-            self.assertIn(f"| `{form}` |", self.text)
-        for word in boardtext.ORDER_FORMS:
+        board, orders = boardtext.forms()
+        for form in board.values():
+            self.assertIn("| `{}` |".format(form.replace("|", "\\|")), self.text)
+        for word in orders:
             self.assertRegex(self.text, rf"(?m)^\| `{word} ")
 
     def test_every_word_of_the_command(self):

@@ -82,7 +82,7 @@ class Building(unittest.TestCase):
     def test_a_typo_shows_before_anything_is_built(self):
         self.write(self.board, BOARD + "lnk A B\n")
         status, out, said = self.run_plan()
-        self.assertEqual((status, out, said), (1, "", f"{self.board}:3: 'lnk' is none of deadline, part, link\n"))
+        self.assertEqual((status, out, said), (1, "", f"{self.board}:3: 'lnk' is none of deadline, part, link, rule\n"))
         self.assertEqual(self.builds(), 0)
 
     def test_builds_again_when_a_source_has_changed(self):

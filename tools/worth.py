@@ -6,7 +6,7 @@ import datafile
 import svg
 from faults import WrongUse
 from limits import RANGES
-from model import Order
+from model import Order, usable_deadline
 from report import table
 from story import tell
 
@@ -26,24 +26,31 @@ def deadline_order(ticks):
 CHUNK = 500  # deadlines to a run of the program
 
 
-def asked_deadlines(file, deadlines):
-    """What the planner says of each deadline of a board: its answer, and what it then holds."""
+def asked_deadlines(held, deadlines):
+    """What the planner says of each deadline of a board that is held: its answer, and what it then holds."""
     for at in range(0, len(deadlines), CHUNK):
-        calls = [asked.load(file)]
+        calls = [held.load()]
         for ticks in deadlines[at:at + CHUNK]:
             calls += [deadline_order(ticks), asked.state()]
         answers = asked.ask(calls)[1:]
         yield from zip(answers[::2], answers[1::2])
 
 
-def ends_of_range(file, held):
+def ends_of_range(held):
     """The least deadline at which the board is possible, and one from which no tick saves; the held one lies between."""
     low, high = RANGES["deadline"]
-    (tight, _), (_, loose) = asked_deadlines(file, [low, high])
+    (tight, _), (_, loose) = asked_deadlines(held, [low, high])
     last_end = max(end for _, _, end, _ in loose.parts)
-    first, last = (tight.place if tight.no else low), min(high, max(last_end + 2, held))
-    guard = last_end // 63 + 1 if loose.rule == "B" else 0
-    return first, min(high, last + guard)
+    first, flat = (least_deadline(ticks, loose.rule) for ticks in (tight.place if tight.no else low, last_end))
+    return first, min(high, max(flat + 2, held.deadline))
+
+
+def least_deadline(ticks, rule):
+    """The least deadline of which so many ticks are usable."""
+    deadline = ticks
+    while usable_deadline(deadline, rule) < ticks:
+        deadline += 1
+    return deadline
 
 
 def worth(source, first=None, last=None):
@@ -55,16 +62,16 @@ def worth(source, first=None, last=None):
     story = tell(source)
     if story.load.no:
         return story, []
-    least, most = ends_of_range(story.state.file, story.state.deadline)
+    least, most = ends_of_range(story.state)
     first, last = first or least, last or max(most, first or 0)
     if first > last:
         raise WrongUse(f"the first deadline, {first}, is past the last, {last}")
-    return story, rows_of(story.state.file, range(max(first - 1, low), last + 1), first)
+    return story, rows_of(story.state, range(max(first - 1, low), last + 1), first)
 
 
-def rows_of(file, deadlines, first):
+def rows_of(held, deadlines, first):
     rows, before = [], None
-    for ticks, (answer, state) in zip(deadlines, asked_deadlines(file, deadlines)):
+    for ticks, (answer, state) in zip(deadlines, asked_deadlines(held, deadlines)):
         total = None if answer.no else state.total
         saves = before - total if before is not None and total is not None else None
         usable = state.last_tick if total is not None else None

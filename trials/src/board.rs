@@ -60,8 +60,31 @@ impl Curve {
     }
 }
 
+/// Which ticks of a deadline are usable: under B one in every full 64 is guard.
+#[derive(Clone, Copy, Debug, Default, PartialEq, Eq)]
+pub enum Rule {
+    #[default]
+    A,
+    B,
+}
+
+/// What a load names for rule A.
+pub const RULE_A: u64 = 0;
+
+impl Rule {
+    /// The rule of a number: refusal 22.
+    pub fn named(number: u64) -> Result<Rule, Refusal> {
+        match number {
+            0 => Ok(Rule::A),
+            1 => Ok(Rule::B),
+            _ => Err(Refusal::at(22, 0)),
+        }
+    }
+}
+
 #[derive(Clone, Debug, PartialEq, Eq)]
 pub struct Board {
+    pub rule: Rule,
     pub deadline: u32,
     pub curves: Vec<Curve>,
     /// An ordered set: ascending by from, then to, and no link twice.
@@ -91,7 +114,10 @@ impl Board {
 
     /// The ticks that a path may take.
     pub fn usable(&self) -> u32 {
-        self.deadline
+        match self.rule {
+            Rule::A => self.deadline,
+            Rule::B => self.deadline - self.deadline / 64,
+        }
     }
 
     /// The ticks of a link itself: none.

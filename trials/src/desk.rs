@@ -1,6 +1,6 @@
 //! One held board: load, order, write, the tally, and the questions.
 
-use crate::board::{Board, MOST_LINKS};
+use crate::board::{Board, Rule, MOST_LINKS};
 use crate::file::{read_design, read_order, write_design, Order};
 use crate::refusal::Refusal;
 use crate::solve::{cheapest, Budget};
@@ -117,8 +117,9 @@ impl Desk {
         self.held.as_ref().ok_or(Refusal::at(11, 0))
     }
 
-    pub fn load(&mut self, file: &[u8], tally: &mut Tally) -> Result<(), Refusal> {
-        let held = Held::plan(read_design(file)?)?;
+    /// The rule comes as its number and is looked at before the file.
+    pub fn load(&mut self, rule: u64, file: &[u8], tally: &mut Tally) -> Result<(), Refusal> {
+        let held = Held::plan(read_design(Rule::named(rule)?, file)?)?;
         self.held = Some(held);
         *tally = Tally::default();
         Ok(())

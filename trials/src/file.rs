@@ -122,7 +122,7 @@ impl Cursor<'_> {
 }
 
 /// Reads a design file: refusals 1 to 8. Loops and times come after.
-pub fn read_design(bytes: &[u8]) -> Result<Board, Refusal> {
+pub fn read_design(rule: Rule, bytes: &[u8]) -> Result<Board, Refusal> {
     let mut cursor = Cursor { bytes, at: 0 };
     if cursor.number()?.value != 1 {
         return Err(Refusal::at(3, 0));
@@ -134,7 +134,7 @@ pub fn read_design(bytes: &[u8]) -> Result<Board, Refusal> {
     if cursor.at < bytes.len() {
         return Err(Refusal::at(8, cursor.at));
     }
-    Ok(Board { deadline, curves, links })
+    Ok(Board { rule, deadline, curves, links })
 }
 
 /// Reads the first order of `bytes` alone (refusals 1, 2, 12, 4, 5, 6) and

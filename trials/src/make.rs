@@ -70,8 +70,17 @@ pub fn designs(count: usize, rng: &mut Rng) -> Vec<Call> {
     each_loaded(boards(count, rng), rng)
 }
 
-/// Half of them on an empty desk, half on what the files before them left; all
-/// that is then held is asked for, and now and then a tally that is not 0.
+/// The number of a rule; one in sixteen names none.
+pub fn rule(rng: &mut Rng) -> u64 {
+    if rng.once_in(16) {
+        return rng.one_of(&[2, 3, 255, 256, (1 << 32) - 1, 1 << 32, (1 << 32) + 1, u64::MAX]);
+    }
+    rng.below(2) as u64
+}
+
+/// Half of them on an empty desk, half on what the files before them left, one
+/// in four under another rule than the one before; all that is then held is
+/// asked for, and now and then a tally that is not 0.
 fn each_loaded(files: Vec<Vec<u8>>, rng: &mut Rng) -> Vec<Call> {
     let mut calls = Vec::new();
     for file in files {
@@ -80,6 +89,9 @@ fn each_loaded(files: Vec<Vec<u8>>, rng: &mut Rng) -> Vec<Call> {
         }
         if rng.once_in(8) {
             calls.push(Call::Tally(sessions::count(rng), sessions::count(rng)));
+        }
+        if rng.once_in(4) {
+            calls.push(Call::Rule(rule(rng)));
         }
         calls.extend([Call::Load(file), Call::Counts, Call::State]);
     }

@@ -16,6 +16,8 @@ const LARGEST_BUFFER: u64 = 65_536;
 struct Player {
     desk: Desk,
     tally: Tally,
+    /// What later loads name.
+    rule: u64,
 }
 
 pub fn play(script: &[u8], out: &mut impl Write) -> io::Result<()> {
@@ -38,7 +40,7 @@ impl Player {
     fn answer(&mut self, call: &Call) -> String {
         let mut text = String::new();
         match call {
-            Call::Rule(_) => (), // no load names a rule yet
+            Call::Rule(rule) => self.rule = *rule,
             Call::Drop => self.desk = Desk::default(),
             Call::Load(file) => self.load(&mut text, file),
             Call::Order(bytes) => self.order(&mut text, bytes),
@@ -73,7 +75,7 @@ impl Player {
     }
 
     fn load(&mut self, text: &mut String, file: &[u8]) {
-        let verdict = self.desk.load(file, &mut self.tally);
+        let verdict = self.desk.load(self.rule, file, &mut self.tally);
         line(text, format_args!("load {}", fact_words(&verdict)));
     }
 
@@ -94,7 +96,8 @@ impl Player {
 /// Every fact of the held board.
 fn held_lines(text: &mut String, held: &Held) {
     line(text, format_args!("held 1"));
-    line(text, format_args!("deadline {}", held.board.deadline));
+    line(text, format_args!("rule {:?}", held.board.rule));
+    line(text, format_args!("deadline {} usable {}", held.board.deadline, held.board.usable()));
     line(text, format_args!("file {}", hex(&held.file())));
     budget_lines(text, &held.board, &held.budget);
     for &link in &held.board.links {

@@ -1,6 +1,6 @@
 //! The texts that the programs print; formats at the top of `main.rs`.
 
-use crate::board::Board;
+use crate::board::{Board, Rule, RULE_A};
 use crate::desk::{label, Answer, Desk, Held, Tally};
 use crate::file::read_design;
 use crate::refusal::Refusal;
@@ -69,7 +69,7 @@ fn timed(held: &Held, part: usize) -> (u32, u32, u32) {
 pub fn show(file: &[u8], orders: &[u8], names: &[u8]) -> String {
     let mut text = String::new();
     let (mut desk, mut tally) = (Desk::default(), Tally::default());
-    if let Err(refusal) = desk.load(file, &mut tally) {
+    if let Err(refusal) = desk.load(RULE_A, file, &mut tally) {
         line(&mut text, format_args!("refused {} {}", refusal.number, refusal.place));
         return text;
     }
@@ -109,7 +109,7 @@ pub fn advised(records: &[&[u8]]) -> String {
     let mut text = String::new();
     for (index, pair) in records.chunks(2).enumerate() {
         line(&mut text, format_args!("session {}", index + 1));
-        let checked = read_design(pair[0]).and_then(|board| board.check_loops_and_times().map(|()| board));
+        let checked = read_design(Rule::A, pair[0]).and_then(|board| board.check_loops_and_times().map(|()| board));
         let (number, place, path) = facts(&checked);
         line(&mut text, format_args!("load no {number} place {place} path {}{}", path.len(), spaced(path)));
         if let Ok(board) = checked {

@@ -2,7 +2,7 @@
 
 mod common;
 use common::*;
-use trials::board::Board;
+use trials::board::{Board, Rule, RULE_A};
 use trials::desk::{Desk, Tally};
 use trials::file::{read_design, write_design};
 use trials::refusal::Refusal;
@@ -10,7 +10,7 @@ use trials::solve::{earliest, every_cheapest};
 
 fn refused_load(board: &Board) -> (u32, u64, Vec<usize>) {
     let Refusal { number, place, path } =
-        Desk::default().load(&write_design(board), &mut Tally::default()).expect_err("the load is refused");
+        Desk::default().load(RULE_A, &write_design(board), &mut Tally::default()).expect_err("the load is refused");
     (number, place, path)
 }
 
@@ -31,7 +31,7 @@ fn case_2_board_k() {
     assert_eq!(board_k().total(&[4, 5, 1, 6]), Some(208));
     assert_eq!(board_k().times(&[4, 5, 1, 6]).ends, [4, 9, 10, 10]);
     assert_eq!(write_design(&board_k()), bytes(K_HEX));
-    assert_eq!(read_design(&bytes(K_HEX)), Ok(board_k()));
+    assert_eq!(read_design(Rule::A, &bytes(K_HEX)), Ok(board_k()));
 }
 
 #[test]

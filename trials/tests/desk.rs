@@ -3,15 +3,16 @@
 
 mod common;
 use common::*;
-use trials::board::{Board, Curve};
+use trials::board::{Board, Curve, Rule, RULE_A};
 use trials::desk::{label, Desk, Tally};
+use trials::file::write_design;
 use trials::refusal::Refusal;
 
 /// 64 flat parts, the first 256 links upward.
 fn full_board() -> Board {
     let all = (0..64).flat_map(|from| (from + 1..64).map(move |to| (from, to)));
     let flat = Curve { fastest: 1, power: 0, runs: vec![] };
-    Board { deadline: 64, curves: vec![flat; 64], links: all.take(256).collect() }
+    Board { rule: Rule::A, deadline: 64, curves: vec![flat; 64], links: all.take(256).collect() }
 }
 
 #[test]
@@ -96,9 +97,9 @@ fn a_load_sets_the_tally_only_when_accepted() {
     let mut k = Session::with(&board_k());
     assert!(k.order("01 0B").verdict.is_ok());
     let desk = k.desk.clone();
-    assert_eq!(k.desk.load(&[], &mut k.tally), Err(Refusal::at(1, 0)));
+    assert_eq!(k.desk.load(RULE_A, &[], &mut k.tally), Err(Refusal::at(1, 0)));
     assert_eq!((&k.desk, k.tally), (&desk, Tally { taken: 1, refused: 0 }));
-    assert_eq!(k.desk.load(&bytes(K_HEX), &mut k.tally), Ok(()));
+    assert_eq!(k.desk.load(RULE_A, &bytes(K_HEX), &mut k.tally), Ok(()));
     assert_eq!(k.tally, Tally::default());
     assert_eq!(k.desk.held().unwrap().board.deadline, 10);
 }
@@ -167,7 +168,7 @@ fn labels() {
 fn the_lowest_part_on_a_loop_is_itself_on_it() {
     let flat = Curve { fastest: 1, power: 0, runs: vec![] };
     let links = [(0, 3), (3, 4), (4, 3), (4, 1), (5, 2), (2, 5)];
-    let board = Board { deadline: 9, curves: vec![flat; 6], links: links.into() };
+    let board = Board { rule: Rule::A, deadline: 9, curves: vec![flat; 6], links: links.into() };
     assert_eq!(board.lowest_part_on_a_loop(), Some(2));
 }
 
@@ -177,4 +178,31 @@ fn the_slow_path_goes_by_the_lowest_numbers() {
     let board = board(4, curves, &[(0, 3), (1, 2), (1, 3), (4, 2)]);
     assert_eq!(board.check_loops_and_times().unwrap_err().place, 5);
     assert_eq!(board.slow_path(), [1, 2]);
+}
+
+#[test]
+fn usable_deadlines() {
+    let usable = |rule, deadline| Board { rule, ..one_part(deadline, curve(1, 0, &[])) }.usable();
+    for (deadline, under_b) in [(1, 1), (63, 63), (64, 63), (127, 126), (128, 126), (4_095, 4_032)] {
+        assert_eq!((usable(Rule::A, deadline), usable(Rule::B, deadline)), (deadline, under_b));
+    }
+}
+
+/// 22 comes before all reading; a refused load and an order keep the held rule.
+#[test]
+fn rules() {
+    let mut k = Session::with(&board_k());
+    let rule = |k: &Session| k.desk.held().unwrap().board.rule;
+    for number in [2, 3, 1 << 32, u64::MAX] {
+        assert_eq!(k.desk.load(number, &[], &mut k.tally), Err(Refusal::at(22, 0)));
+    }
+    assert_eq!(rule(&k), Rule::A);
+    assert_eq!(k.desk.load(1, &bytes(K_HEX), &mut k.tally), Ok(()));
+    assert_eq!(k.desk.load(0, &[], &mut k.tally), Err(Refusal::at(1, 0)));
+    assert_eq!(k.desk.order(&bytes("01 80 01"), &mut k.tally).verdict, Ok(()));
+    assert_eq!((rule(&k), k.desk.held().unwrap().board.usable()), (Rule::B, 126));
+    let tight = write_design(&one_part(64, curve(64, 0, &[])));
+    assert_eq!(k.desk.load(1, &tight, &mut k.tally).unwrap_err().number, 10);
+    assert_eq!(k.desk.load(0, &tight, &mut k.tally), Ok(()));
+    assert_eq!(rule(&k), Rule::A);
 }

@@ -3,7 +3,7 @@
 
 mod common;
 use common::*;
-use trials::board::{Board, Curve, Run};
+use trials::board::{Board, Curve, Rule, Run};
 use trials::bundle;
 use trials::file::*;
 use trials::make::{self, boards, damage, orders};
@@ -102,7 +102,7 @@ fn refusal_of<T>(read: Result<T, Refusal>, hex: &str) -> (u32, u32) {
 #[test]
 fn faulty_files() {
     for &(hex, number, place) in FAULTY_FILES {
-        assert_eq!(refusal_of(read_design(&bytes(hex)), hex), (number, place), "{hex}");
+        assert_eq!(refusal_of(read_design(Rule::A, &bytes(hex)), hex), (number, place), "{hex}");
     }
 }
 
@@ -127,7 +127,7 @@ fn boards_and_orders_are_read_back() {
     let rng = &mut Rng::new(1);
     for _ in 0..2_000 {
         let board = boards::board(rng);
-        assert_eq!(read_design(&write_design(&board)), Ok(board.clone()));
+        assert_eq!(read_design(Rule::A, &write_design(&board)), Ok(board.clone()));
         if board.check_loops_and_times().is_ok() {
             let order = orders::order(&board, rng);
             let bytes = write_order(&order);
@@ -139,7 +139,7 @@ fn boards_and_orders_are_read_back() {
 /// There is one file for each board: what is read is written as it was. A
 /// refusal's place lies within the input, or at its end where it is cut off.
 fn check_file(file: &[u8]) {
-    match read_design(file) {
+    match read_design(Rule::A, file) {
         Ok(board) => {
             assert!(board.is_well_formed());
             assert_eq!(write_design(&board), file);
@@ -172,7 +172,7 @@ fn every_cut_is_refusal_1() {
     for _ in 0..50 {
         let file = write_design(&boards::board(rng));
         for length in 0..file.len() {
-            assert_eq!(refusal_of(read_design(&file[..length]), "a cut file"), (1, length as u32));
+            assert_eq!(refusal_of(read_design(Rule::A, &file[..length]), "a cut file"), (1, length as u32));
         }
     }
 }
@@ -182,7 +182,7 @@ fn every_cut_is_refusal_1() {
 fn read_with(place: usize, form: &[u8], rest: bool) -> Result<Board, Refusal> {
     let numbers = design_numbers(&boards::with_every_field());
     let after = if rest { bytes_of(&numbers[place + 1..]) } else { Vec::new() };
-    read_design(&[&bytes_of(&numbers[..place])[..], form, &after].concat())
+    read_design(Rule::A, &[&bytes_of(&numbers[..place])[..], form, &after].concat())
 }
 
 /// The places of the powers among the numbers of that file, each a byte long.
@@ -235,10 +235,10 @@ fn the_longest_file() {
     let curve = Curve { fastest: 1_023, power: 20_000_000, runs };
     let all = (0..64).flat_map(|from| (0..64).map(move |to| (from, to)));
     let links = all.filter(|(from, to)| from < to).take(256).collect();
-    let board = Board { deadline: 4_095, curves: vec![curve; 64], links };
+    let board = Board { rule: Rule::A, deadline: 4_095, curves: vec![curve; 64], links };
     assert!(board.is_well_formed());
     assert_eq!(write_design(&board).len(), 1_990);
-    assert_eq!(read_design(&write_design(&board)), Ok(board));
+    assert_eq!(read_design(Rule::A, &write_design(&board)), Ok(board));
 }
 
 #[test]

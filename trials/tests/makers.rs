@@ -2,6 +2,7 @@
 //! refusal often enough to be tried.
 
 use std::collections::{BTreeMap, BTreeSet};
+use trials::board::Rule;
 use trials::calls::{script, Call};
 use trials::file::{read_design, read_order};
 use trials::make::{self, advice, boards::*};
@@ -74,7 +75,7 @@ fn boards_of_every_size_with_links_both_ways() {
 fn files_meet_every_refusal_of_reading() {
     let mut counts = Counts::new();
     for file in make::files(10_000, &mut Rng::new(13)) {
-        *counts.entry(read_design(&file).err().map_or(0, |refusal| refusal.number)).or_default() += 1;
+        *counts.entry(read_design(Rule::A, &file).err().map_or(0, |refusal| refusal.number)).or_default() += 1;
     }
     assert_met(&counts, &[0, 1, 2, 3, 4, 5, 6, 7, 8], 100);
 }
@@ -113,14 +114,15 @@ fn sessions_meet_every_refusal_of_orders() {
     assert_met(&counts, &[0], 2_000);
     assert_met(&counts, &[7, 9, 10, 11, 13, 14, 15, 17, 18], 10);
     assert_met(&counts, &[2, 4, 12], 5);
-    assert_met(&answers(&text, "load"), &[0, 1, 9, 10], 5);
+    assert_met(&answers(&text, "load"), &[0, 1, 9, 10, 22], 5);
+    assert!(text.contains("\nrule A\n") && text.contains("\nrule B\n"));
     assert!(!text.contains("stopped"));
 }
 
 /// Loads that are refused while a board is held, on a tally that is not 0.
 #[test]
 fn loads_on_a_held_board() {
-    let text = played(&script(&make::loads(600, &mut Rng::new(17))));
+    let text = played(&script(&make::loads(2_000, &mut Rng::new(17))));
     let lines: Vec<&str> = text.lines().collect();
     let kept = |three: &&[&str]| {
         three[0].starts_with("load no ") && !three[0].starts_with("load no 0") && three[2] == "held 1"
@@ -149,26 +151,45 @@ fn questions_of_every_kind() {
     assert_met(&answers(&text, "label"), &[0, 20], 200);
 }
 
-/// Right advice has loads, stale and hostile advice differs from it, and a
-/// board that is refused is advised too.
+/// Right advice has loads, all other kinds mostly differ from it, what is sent
+/// along paths conserves, and a board that is refused is advised too.
 #[test]
 fn advice_of_every_kind() {
+    const KINDS: usize = advice::KINDS.len();
     let rng = &mut Rng::new(12);
-    let (mut right, mut other) = ([0; 4], [0; 4]);
-    for index in 0..800 {
+    let (mut right, mut other) = ([0; KINDS], [0; KINDS]);
+    for index in 0..200 * KINDS {
         let board = board_in_time(rng);
+        let kind = advice::KINDS[index % KINDS];
         let sound = advice::advice(advice::Kind::Right, &board, rng);
-        let given = advice::advice(advice::KINDS[index % 4], &board, rng);
+        let given = advice::advice(kind, &board, rng);
         assert!(given.len() <= 4 * advice::LOADS);
-        right[index % 4] += usize::from(given == sound);
-        other[index % 4] += usize::from(given != sound);
+        if [advice::Kind::Right, advice::Kind::Huge, advice::Kind::Cyclic].contains(&kind) {
+            assert!(conserves(&given, &board), "{kind:?}");
+        }
+        right[index % KINDS] += usize::from(given == sound);
+        other[index % KINDS] += usize::from(given != sound);
     }
     assert_eq!(right[0], 200);
     assert!(other[1] > 50 && right[1] > 20, "stale advice is often still right: {right:?} {other:?}");
-    assert_eq!(right[2], 0);
-    assert!(other[3] > 150, "{other:?}");
+    assert_eq!([right[2], right[4]], [0, 0], "{right:?}");
+    assert!(other[3] > 150 && other[5] > 100 && other[6] > 150, "{other:?}");
     let records = make::advised(400, rng);
     assert_eq!(records.len(), 800);
-    let refused = |file: &[u8]| read_design(file).unwrap().check_loops_and_times().err();
+    let refused = |file: &[u8]| read_design(Rule::A, file).unwrap().check_loops_and_times().err();
     assert!(records.chunks(2).any(|pair| refused(&pair[0]).is_some_and(|refusal| refusal.number == 9)));
+}
+
+/// As much comes to each part as its load, and as much goes on, at 2^32 anew.
+fn conserves(advice: &[u8], board: &trials::board::Board) -> bool {
+    let load = |place: usize| u32::from_le_bytes(advice[4 * place..4 * place + 4].try_into().unwrap());
+    let (parts, links) = (board.parts(), board.links.len());
+    (0..parts).all(|part| {
+        let sum = |end: fn(&(usize, usize)) -> usize, own: usize| {
+            let on = board.links.iter().enumerate().filter(|(_, link)| end(link) == part);
+            on.fold(load(own), |sum, (k, _)| sum.wrapping_add(load(parts + k)))
+        };
+        sum(|link| link.1, parts + links + part) == load(part)
+            && sum(|link| link.0, parts + links + parts + part) == load(part)
+    })
 }

@@ -92,7 +92,8 @@ order no 10 place 10 path 4 0 3 1 2 took 2 tally 1 1
 order no 0 place 0 path 0 took 3 tally 2 1
 order no 12 place 0 path 0 took 0 tally 2 1
 held 1
-deadline 10
+rule A
+deadline 10 usable 10
 file 010a0402640202140105035a01030c013201020c0428020106010203000100030102
 part 0 start 0 delay 4 end 4 power 60
 part 1 start 4 delay 3 end 7 power 90

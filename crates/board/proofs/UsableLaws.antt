@@ -7,7 +7,7 @@ use Rattle.base.specs.Pick.{pick}
 use Rattle.board.specs.declared.Rule.{Rule}
 use Rattle.board.specs.declared.Rule.the-variants.{A, B}
 use Rattle.board.specs.declared.Board.{Board}
-use Rattle.board.specs.Board.{WellFormed, ruleNumber, ruleOf, usableUnder, usable}
+use Rattle.board.specs.Board.{WellFormed, ruleNumber, ruleOf, usableUnder, usable, underRule}
 
 -- ---- numbers
 pub number-to : (r : Rule) → ruleNumber r ≤ 1
@@ -84,3 +84,24 @@ guard-4095 = refl
 pub all-usable : (d : ℕ) → usableUnder A d ≡ d
 unfolding usableUnder
 all-usable d = refl
+
+-- ---- a board under another rule
+pub under-well : (rule : Rule) (b : Board) → WellFormed b → WellFormed (underRule rule b)
+unfolding underRule
+under-well rule b w = record {
+  deadline-from = w .deadline-from;
+  deadline-to = w .deadline-to;
+  parts-from = w .parts-from;
+  parts-to = w .parts-to;
+  curves = w .curves;
+  links-to = w .links-to;
+  from-in = w .from-in;
+  to-in = w .to-in;
+  apart = w .apart;
+  plain = w .plain;
+  ascends = w .ascends;
+  blank-curves = w .blank-curves;
+  blank-links = w .blank-links;
+  curve-room = w .curve-room;
+  link-room = w .link-room;
+}

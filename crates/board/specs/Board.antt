@@ -52,6 +52,10 @@ usableUnder B deadline = deadline - deadline / 64
 unfoldable pub usable : Board → ℕ
 usable b = usableUnder (b .rule) (b .deadline .0)
 
+-- the board with another rule
+unfoldable pub underRule : Rule → Board → Board
+underRule rule b = record { rule = rule; deadline = b .deadline; parts = b .parts; curve = b .curve; links = b .links; link = b .link }
+
 -- the ticks that a link takes
 unfoldable pub delayOf : Link → ℕ
 delayOf l = l .delay .0

@@ -3,6 +3,9 @@ use desk::Desk;
 use desk::Tally;
 use refusal::Answer;
 
+// The program names rule A.
+const RULE_A: u32 = 0;
+
 // The desk and the tally after the orders.
 struct Ended {
     desk: Desk,
@@ -28,7 +31,7 @@ fn plan(board: &[u8], orders: &[u8], names: &[u8]) {
         taken: 0,
         refused: 0,
     };
-    let l = desk::load(desk::empty(), board, none);
+    let l = desk::load(desk::empty(), RULE_A, board, none);
     let a = l.answer;
     match a {
         Answer::Refused { why, place } => {

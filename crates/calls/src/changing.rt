@@ -6,8 +6,8 @@ use crate::input;
 use console::PAGE;
 use desk::Tally;
 
-// The greatest count that a tally holds.
-const COUNT_MAX: u64 = 4294967295;
+// The greatest count that a tally holds, and the greatest number that may be named for a rule.
+const NUMBER_MAX: u64 = 4294967295;
 
 // A call that was cut short: what is held stays.
 fn cut_short(at: usize, s: Session) -> Turn {
@@ -18,7 +18,7 @@ fn cut_short(at: usize, s: Session) -> Turn {
     }
 }
 
-// Names the rule of later loads. No load has one yet.
+// Names the rule of later loads.
 pub(crate) fn name_rule(fd: i32, at: usize, s: Session) -> Turn {
     let rule = input::number(fd);
     if !rule.there {
@@ -65,7 +65,7 @@ pub(crate) fn load(fd: i32, page: &mut [u8; PAGE], at: usize, s: Session) -> Tur
 fn loaded(page: &mut [u8; PAGE], at: usize, s: Session, file: &[u8]) -> Turn {
     let held = s.desk;
     let counted = s.tally;
-    let l = desk::load(held, file, counted);
+    let l = desk::load(held, at_most(s.rule), file, counted);
     let answer = l.answer;
     let path = l.path;
     let desk = l.desk;
@@ -135,8 +135,8 @@ pub(crate) fn set_tally(fd: i32, at: usize, s: Session) -> Turn {
     }
     let desk = s.desk;
     let tally = Tally {
-        taken: count_of(taken.value),
-        refused: count_of(refused.value),
+        taken: at_most(taken.value),
+        refused: at_most(refused.value),
     };
     Turn {
         session: Session {
@@ -149,11 +149,12 @@ pub(crate) fn set_tally(fd: i32, at: usize, s: Session) -> Turn {
     }
 }
 
-fn count_of(n: u64) -> u32 {
-    if n < COUNT_MAX {
+// A number of 32 bits; a greater one is asked for at the greatest.
+fn at_most(n: u64) -> u32 {
+    if n < NUMBER_MAX {
         n as u32
     } else {
-        COUNT_MAX as u32
+        NUMBER_MAX as u32
     }
 }
 

@@ -2,6 +2,7 @@
 use crate::Told;
 use crate::asking;
 use crate::writing;
+use board::Rule;
 use console::PAGE;
 use desk::Desk;
 use report::Row;
@@ -16,8 +17,10 @@ pub(crate) fn state(page: &mut [u8; PAGE], at: usize, d: Desk) -> Told {
 fn put_held(page: &mut [u8; PAGE], at: usize, d: Desk) -> usize {
     let whole = questions::whole(d);
     let held = console::text(page, at, b"held 1\n");
-    let due = console::number(page, held, b"deadline ", whole.deadline.0 as u64);
-    let named = console::text(page, due, b"\nfile ");
+    let ruled = put_rule(page, held, whole.rule);
+    let due = console::number(page, ruled, b"deadline ", whole.deadline.0 as u64);
+    let usable = console::number(page, due, b" usable ", whole.usable.0 as u64);
+    let named = console::text(page, usable, b"\nfile ");
     let filed = writing::put_file(page, named, d);
     let ended = console::end_line(page, filed);
     let parts = put_parts(page, ended, d, whole.parts);
@@ -25,6 +28,13 @@ fn put_held(page: &mut [u8; PAGE], at: usize, d: Desk) -> usize {
     let summed = console::end_line(page, total);
     let links = put_links(page, summed, d, whole.links);
     put_sets(page, links, d, whole.parts)
+}
+
+fn put_rule(page: &mut [u8; PAGE], at: usize, rule: Rule) -> usize {
+    match rule {
+        Rule::A => console::text(page, at, b"rule A\n"),
+        Rule::B => console::text(page, at, b"rule B\n"),
+    }
 }
 
 fn put_parts(page: &mut [u8; PAGE], at: usize, d: Desk, parts: usize) -> usize {

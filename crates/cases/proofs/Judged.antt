@@ -42,6 +42,8 @@ use Rattle.desk.specs.Held.{Holding}
 use Rattle.desk.specs.Empty.{noAdvice}
 use Rattle.desk.specs.Judged.{BoardJudged}
 use Rattle.desk.specs.Load.{noTally, loadRefused, tallyLoaded, LoadJudged, LoadParsed, LoadSaid}
+use Rattle.desk.specs.Load as load
+use Rattle.demands.proofs.LoadLaws.{said-read}
 use Rattle.desk.specs.Order.{changedOf, placeTried, triedOf, oneTaken, oneRefused, refusedTally, tallyOrdered, OrderJudged, OrderTried, OrderParsed, OrderSaid}
 use Rattle.desk.proofs.Tried.{never, passed-tried}
 use Rattle.cases.specs.Promised.{Comes, LoadRefused}
@@ -150,11 +152,11 @@ at-budget b delays k {d = d} a =
 
 -- ---- loads
 module _ (b : Board) (d : Desk) (t : Tally) (read : designOf A (fileOf b) ≡ got b (length (fileOf b))) where
-  load-judged : (r : Loaded) → LoadSaid d (fileOf b) t r → LoadJudged b d t r
-  load-judged r said = subst (λ (p : Parse Board). LoadParsed p d t r) read (said .parsed)
+  load-judged : (r : Loaded) → LoadSaid d 0 (fileOf b) t r → LoadJudged b d t r
+  load-judged r said = subst (λ (p : Parse Board). LoadParsed p d t r) read (said-read d t r A (fileOf b) said .parsed)
 
-  load-said : (r : Loaded) → LoadJudged b d t r → LoadSaid d (fileOf b) t r
-  load-said r j = record { parsed = subst (λ (p : Parse Board). LoadParsed p d t r) (sym read) j }
+  load-said : (r : Loaded) → LoadJudged b d t r → LoadSaid d 0 (fileOf b) t r
+  load-said r j = load.ruled A refl (record { parsed = subst (λ (p : Parse Board). LoadParsed p d t r) (sym read) j })
 
 module _ (b : Board) (delays : List ℕ) (k : Known b delays) (d : Desk) (t : Tally) where
   accepted : (r : Loaded) → LoadJudged b d t r → (r .answer ≡ Done) × At b noTally (r .desk) (r .tally)
@@ -168,7 +170,7 @@ module _ (b : Board) (delays : List ℕ) (k : Known b delays) (d : Desk) (t : Ta
         },
       )
 
-  pub load-accepted : Comes (LoadSaid d (fileOf b) t) (λ r. (r .answer ≡ Done) × At b noTally (r .desk) (r .tally))
+  pub load-accepted : Comes (LoadSaid d 0 (fileOf b) t) (λ r. (r .answer ≡ Done) × At b noTally (r .desk) (r .tally))
   load-accepted = record {
     result = record { answer = Done; path = trailOf []; desk = known-desk b delays k; tally = noTally };
     said = load-said b d t (k .read) _ (record { judged = known-judged b delays k d; tally = refl });
@@ -184,7 +186,7 @@ module _ (b : Board) (read : designOf A (fileOf b) ≡ got b (length (fileOf b))
     tally-stays = j .tally ∙ ap (λ (a : Answer). tallyLoaded a t) (slow-answer b ticks path k d (j .judged));
   }
 
-  pub load-refused : Comes (LoadSaid d (fileOf b) t) (λ r. LoadRefused d t r 10 ticks path)
+  pub load-refused : Comes (LoadSaid d 0 (fileOf b) t) (λ r. LoadRefused d t r 10 ticks path)
   load-refused = record {
     result = loadRefused (refusal 10 ticks) path d t;
     said = load-said b d t read _ (record { judged = slow-judged b ticks path k d; tally = refl });

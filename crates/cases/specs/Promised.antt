@@ -128,13 +128,13 @@ unfoldable pub StepsPromised : List Step → Desk → Tally → Type 0
 StepsPromised [] d t = Unit
 StepsPromised (s ∷ steps) d t = StepPromised s (StepsPromised steps) d t
 
--- a row of the table
+-- a row of the table; boards are loaded under rule A, whose number is 0
 unfoldable pub Promised : Case → Type 0
 Promised (row.file b bytes) = (fileOf b ≡ bytes) × (designOf A bytes ≡ got b (length bytes))
 Promised (row.board b steps) =
-    (d : Desk) (t : Tally) → Comes (LoadSaid d (fileOf b) t) (λ r. (r .answer ≡ answer.Done) × StepsPromised steps (r .desk) (r .tally))
+    (d : Desk) (t : Tally) → Comes (LoadSaid d 0 (fileOf b) t) (λ r. (r .answer ≡ answer.Done) × StepsPromised steps (r .desk) (r .tally))
 Promised (row.board-not b number place path) =
-    (d : Desk) (t : Tally) → Comes (LoadSaid d (fileOf b) t) (λ r. LoadRefused d t r number place path)
+    (d : Desk) (t : Tally) → Comes (LoadSaid d 0 (fileOf b) t) (λ r. LoadRefused d t r number place path)
 Promised (row.number bytes value) = numberAt bytes 0 ≡ read.Number value (length bytes)
 Promised (row.number-not bytes number place) = numberAt bytes 0 ≡ read.Refused (by number) place
 Promised (row.both one other) = Promised one × Promised other

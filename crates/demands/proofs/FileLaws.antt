@@ -13,6 +13,7 @@ use Rattle.base.specs.Pick.{pick}
 use Rattle.refusal.specs.declared.Answer.{Answer}
 use Rattle.refusal.specs.declared.Answer.the-variants.{Done}
 use Rattle.groups.proofs.RoundTrip.{Bytes}
+use Rattle.board.specs.Board.{ruleNumber}
 use Rattle.design.specs.Design.{fileOf}
 use Rattle.design.proofs.DesignLaws.{read-written}
 use Rattle.design_write.specs.Write.{writeOf, bufferOf}
@@ -57,22 +58,23 @@ module _ (d : Desk) (h : Holding d) (buf : List ℕ) (a : Answer) (buf′ : List
   pub write-writes : a ≡ Done → buf′ ≡ file ++ drop (length file) buf
   write-writes done = room-writes (accepted-room done) .1
 
-  -- "Boards written are read back equal": what an accepted write put at the front is accepted by any load, with an equal board and an equal budget
+  -- "Boards written are read back equal", "under the held rule": what an accepted write put at the front is accepted by any load that names it, with
+  -- an equal board and an equal budget
   pub write-load :
-      a ≡ Done → (d₀ : Desk) (t : Tally) (r : Loaded) → LoadSaid d₀ (take (length file) buf′) t r → Accepted (d .board) r × SameDesk (r .desk) d
+      a ≡ Done → (d₀ : Desk) (t : Tally) (r : Loaded) → LoadSaid d₀ (ruleNumber (d .board .rule)) (take (length file) buf′) t r → Accepted (d .board) r × SameDesk (r .desk) d
   write-load done d₀ t r said =
       let front : take (length file) buf′ ≡ file =
       ap (take (length file)) (write-writes done) ∙ take-append-seam file (drop (length file) buf) in
-      let so = written-loads d₀ t r (d .board) (kept-plannable (d .board) (d .budget) (h .kept)) (subst (λ (s : List ℕ). LoadSaid d₀ s t r) front said) in
+      let so = written-loads d₀ t r (d .board) (kept-plannable (d .board) (d .budget) (h .kept)) (subst (λ (s : List ℕ). LoadSaid d₀ (ruleNumber (d .board .rule)) s t r) front said) in
       (so, one-board (r .desk) d (so .holding) h (so .board))
 
 -- "accepted files are rewritten byte for byte", and the rest of the buffer is as it was
 pub load-write :
-    (d : Desk) (t : Tally) (r : Loaded) (s : List ℕ) → Bytes s → LoadSaid d s t r → r .answer ≡ Done →
+    (d : Desk) (t : Tally) (r : Loaded) (rule : ℕ) (s : List ℕ) → Bytes s → LoadSaid d rule s t r → r .answer ≡ Done →
     (buf : List ℕ) (a : Answer) (buf′ : List ℕ) → WriteGiven (r .desk) buf a buf′ → length s ≤ length buf →
     (a ≡ Done) × (buf′ ≡ s ++ drop (length s) buf)
-load-write d t r s bytes said done buf a buf′ given room =
-    let came = load-accepted d t r s said done in
-    let same : fileOf (r .desk .board) ≡ s = ap fileOf (came .so .board) ∙ read-written s (came .of) (came .file .size) bytes (came .file .read) in
+load-write d t r rule s bytes said done buf a buf′ given room =
+    let came = load-accepted d t r rule s said done in
+    let same : fileOf (r .desk .board) ≡ s = ap fileOf (came .so .board) ∙ read-written (came .named) s (came .of) (came .file .size) bytes (came .file .read) in
     let w = room-writes (r .desk) (came .so .holding) buf a buf′ given (rw same room) in
     (w .0, rw same at (w .1))

@@ -1,6 +1,6 @@
 -- Two results that one input allows are the same but for the advice, and a refused call leaves what is held as it was.
 -- Assumes nothing.
-use mathlib.Core.Path.{_≡_, refl, sym, ap, _∙_}
+use mathlib.Core.Path.{_≡_, refl, sym, ap, subst, _∙_}
 use mathlib.Core.Bool.{Bool, true, false}
 use mathlib.Core.List.{List, []}
 use Prim.Native.Nat.{ℕ}
@@ -8,9 +8,10 @@ use native.Mathlib.Omega.{arith}
 use Rattle.refusal.specs.declared.Why.{Why}
 use Rattle.refusal.specs.declared.Answer.{Answer}
 use Rattle.refusal.specs.declared.Answer.the-variants.{Done, Refused}
-use Rattle.board.specs.declared.Rule.the-variants.{A}
+use Rattle.board.specs.declared.Rule.{Rule}
 use Rattle.board.specs.declared.Board.{Board}
 use Rattle.board.specs.Board.{WellFormed}
+use Rattle.board.proofs.UsableLaws.{one-rule}
 use Rattle.slow.specs.declared.Trail.{Trail}
 use Rattle.slow.specs.Walk.{trailOf}
 use Rattle.budget.specs.declared.Budget.{Budget}
@@ -28,8 +29,9 @@ use Rattle.desk.specs.declared.Loaded.{Loaded}
 use Rattle.desk.specs.declared.Ordered.{Ordered}
 use Rattle.desk.specs.Held.{Holding, Standing, empty, holding}
 use Rattle.desk.specs.Judged.{BoardJudged}
-use Rattle.desk.specs.Load.{loadRefused, tallyLoaded, LoadJudged, LoadParsed, LoadSaid}
+use Rattle.desk.specs.Load.{loadRefused, tallyLoaded, LoadJudged, LoadParsed, LoadRead, LoadSaid}
 use Rattle.desk.specs.Order.{changedOf, triedOf, refusedTally, tallyOrdered, orderRefused, OrderJudged, OrderTried, OrderParsed, OrderSaid}
+use Rattle.desk.specs.Load as load
 use Rattle.demands.specs.Same.{SameDesk, SameLoaded, SameOrdered}
 use Rattle.solver.proofs.VerdictLaws.{verdict-once}
 use Rattle.desk.proofs.Tried.{never, Passed, tried-passed, tried-fits, changed-well}
@@ -84,8 +86,15 @@ module _ (d : Desk) (t : Tally) where
   load-parsed-once (stop why place) well r r′ is is′ = same-loaded r r′ (is ∙ sym is′)
   load-parsed-once (got b next) well r r′ j j′ = load-judged-once b (well b next refl) r r′ j j′
 
-  pub load-once : (s : List ℕ) (r r′ : Loaded) → LoadSaid d s t r → LoadSaid d s t r′ → SameLoaded r r′
-  load-once s r r′ said said′ = load-parsed-once (designOf A s) (design-well-formed A s) r r′ (said .parsed) (said′ .parsed)
+  load-read-once : (named : Rule) (s : List ℕ) (r r′ : Loaded) → LoadRead d named s t r → LoadRead d named s t r′ → SameLoaded r r′
+  load-read-once named s r r′ read read′ = load-parsed-once (designOf named s) (design-well-formed named s) r r′ (read .parsed) (read′ .parsed)
+
+  pub load-once : (rule : ℕ) (s : List ℕ) (r r′ : Loaded) → LoadSaid d rule s t r → LoadSaid d rule s t r′ → SameLoaded r r′
+  load-once rule s r r′ (load.unruled none is) (load.unruled none′ is′) = same-loaded r r′ (is ∙ sym is′)
+  load-once rule s r r′ (load.unruled none is) (load.ruled named e read) = absurd (none named e)
+  load-once rule s r r′ (load.ruled named e read) (load.unruled none is) = absurd (none named e)
+  load-once rule s r r′ (load.ruled named e read) (load.ruled named′ e′ read′) =
+      load-read-once named s r r′ read (subst (λ (x : Rule). LoadRead d x s t r′) (one-rule named′ named (sym e′ ∙ e)) read′)
 
   -- a refused load changes nothing
   load-judged-kept : (b : Board) (r : Loaded) {why : Why} {place : ℕ} → LoadJudged b d t r → r .answer ≡ Refused why place → (r .desk ≡ d) × (r .tally ≡ t)
@@ -97,8 +106,9 @@ module _ (d : Desk) (t : Tally) where
   load-parsed-kept (got b next) r j e = load-judged-kept b r j e
 
   pub load-refused-stays :
-      (s : List ℕ) (r : Loaded) {why : Why} {place : ℕ} → LoadSaid d s t r → r .answer ≡ Refused why place → (r .desk ≡ d) × (r .tally ≡ t)
-  load-refused-stays s r said e = load-parsed-kept (designOf A s) r (said .parsed) e
+      (rule : ℕ) (s : List ℕ) (r : Loaded) {why : Why} {place : ℕ} → LoadSaid d rule s t r → r .answer ≡ Refused why place → (r .desk ≡ d) × (r .tally ≡ t)
+  load-refused-stays rule s r (load.unruled none is) e = (ap (λ (x : Loaded). x .desk) is, ap (λ (x : Loaded). x .tally) is)
+  load-refused-stays rule s r (load.ruled named num read) e = load-parsed-kept (designOf named s) r (read .parsed) e
 
 -- ---- orders
 same-ordered : (r r′ : Ordered) → r ≡ r′ → SameOrdered r r′
@@ -149,7 +159,7 @@ module _ (d : Desk) (t : Tally) where
 
   -- a refused order changes the tally at most, and that as it is counted
   refused-kept :
-      (r : Ordered) (took : ℕ) {w why : Why} {q place : ℕ} {path : List ℕ} → r ≡ orderRefused w q took path d t → r .answer ≡ Refused why place →
+      (r : Ordered) (took : ℕ) {w why : Why} {q place : ℕ} → r ≡ orderRefused w q took [] d t → r .answer ≡ Refused why place →
       (r .desk ≡ d) × (r .tally ≡ refusedTally why t)
   refused-kept r took {w = w} {why = why} {q = q} {place = place} is e =
       let told : Refused w q ≡ Refused why place = sym (ap (λ (x : Ordered). x .answer) is) ∙ e in

@@ -9,7 +9,6 @@ use Rattle.base.specs.Pick.{pick}
 use Rattle.refusal.specs.declared.Why.{Why}
 use Rattle.refusal.specs.declared.Answer.{Answer}
 use Rattle.refusal.specs.declared.Answer.the-variants.{Done, Refused}
-use Rattle.board.specs.declared.Rule.the-variants.{A}
 use Rattle.board.specs.declared.Board.{Board}
 use Rattle.slow.specs.declared.Trail.{Trail}
 use Rattle.budget.specs.Budget.{Holds}
@@ -24,6 +23,7 @@ use Rattle.desk.specs.declared.Ordered.{Ordered}
 use Rattle.desk.specs.Held.{Holding, Standing, empty, holding}
 use Rattle.desk.specs.Judged.{BoardJudged}
 use Rattle.desk.specs.Load.{noTally, LoadJudged, LoadParsed, LoadSaid}
+use Rattle.desk.specs.Load as load
 use Rattle.desk.specs.Order.{changedOf, triedOf, counts, oneTaken, refusedTally, tallyOrdered, orderRefused, OrderJudged, OrderTried, OrderParsed, OrderSaid}
 use Rattle.demands.specs.Reached.{Reached, loaded, ordered, Counting, since, after, takenBy, refusedBy, takenIn, refusedIn, Tallied}
 use Rattle.demands.proofs.LoadLaws.{load-accepted}
@@ -86,7 +86,7 @@ module _ (d : Desk) (h : Holding d) (t : Tally) (r : Ordered) where
 
 -- ---- any list of orders, whoever writes to the tally
 pub reached-holding : {d : Desk} → Reached d → Holding d
-reached-holding (loaded {d = d} {s = s} {t = t} {r = r} said done) = load-accepted d t r s said done .so .holding
+reached-holding (loaded {d = d} {rule = rule} {s = s} {t = t} {r = r} said done) = load-accepted d t r rule s said done .so .holding
 reached-holding (ordered {d = d} {s = s} {t = t} {r = r} before said) = order-leaves d (reached-holding before) t r s said .holding
 
 -- "After any list of orders the held budget is the one that demand 2 gives the board as it then stands."
@@ -108,7 +108,7 @@ none-yet t is = rw is (record { taken = refl; refused = refl })
 
 -- "the sum is the number of counted orders since the load"
 pub counting-tally : {d : Desk} {t : Tally} {answers : List Answer} → Counting d t answers → Tallied t answers
-counting-tally (since {d = d} {s = s} {t = t} {r = r} said done) = none-yet (r .tally) (load-accepted d t r s said done .so .tally)
+counting-tally (since {d = d} {rule = rule} {s = s} {t = t} {r = r} said done) = none-yet (r .tally) (load-accepted d t r rule s said done .so .tally)
 counting-tally (after {d = d} {t = t} {answers = answers} {s = s} {r = r} before said) =
     one-more t (r .tally) (r .answer) answers (counting-tally before)
     (order-leaves d (reached-holding (counting-reached before)) t r s said .counted)
@@ -118,8 +118,9 @@ module _ (d : Desk) (t : Tally) (so : Standing d) where
   kept-standing : {d′ : Desk} → d′ ≡ d → Standing d′
   kept-standing e = rw e so
 
-  pub load-standing : (s : List ℕ) (r : Loaded) → LoadSaid d s t r → Standing (r .desk)
-  load-standing s r said = parsed (designOf A s) (said .parsed)
+  pub load-standing : (rule : ℕ) (s : List ℕ) (r : Loaded) → LoadSaid d rule s t r → Standing (r .desk)
+  load-standing rule s r (load.unruled none is) = kept-standing (ap (λ (x : Loaded). x .desk) is)
+  load-standing rule s r (load.ruled named e read) = parsed (designOf named s) (read .parsed)
     where
       parsed : (p : Parse Board) → LoadParsed p d t r → Standing (r .desk)
       parsed (stop why place) is = kept-standing (ap (λ (x : Loaded). x .desk) is)

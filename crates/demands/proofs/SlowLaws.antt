@@ -5,11 +5,13 @@ use mathlib.Core.Path.{_≡_, refl, sym, subst, _∙_}
 use mathlib.Core.List.{List}
 use Prim.Native.Nat.{ℕ}
 use native.Mathlib.Omega.{arith}
+use Rattle.refusal.specs.declared.Why.the-variants.{Looped, TooSlow}
 use Rattle.refusal.specs.declared.Answer.{Answer}
-use Rattle.refusal.specs.declared.Answer.the-variants.{Done}
+use Rattle.refusal.specs.declared.Answer.the-variants.{Done, Refused}
 use Rattle.refusal.specs.Refusal.{refusal}
+use Rattle.board.specs.declared.Rule.{Rule}
 use Rattle.board.specs.declared.Board.{Board}
-use Rattle.board.specs.Board.{WellFormed}
+use Rattle.board.specs.Board.{WellFormed, ruleNumber}
 use Rattle.board.specs.Leads.{LoopFree}
 use Rattle.cone.proofs.Cones.{path-from}
 use Rattle.slow.specs.declared.Trail.{Trail}
@@ -35,6 +37,13 @@ use Rattle.demands.specs.Loads.{Describes}
 use Rattle.demands.specs.Orders.{Reads}
 use Rattle.demands.specs.Slow.{SlowShown, TimeRefusal}
 use Rattle.demands.proofs.Once.{judged-well}
+use Rattle.demands.proofs.LoadLaws.{said-read}
+
+loop-not-slow : {A : Type 0} {p q : ℕ} → Refused Looped p ≡ Refused TooSlow q → A
+loop-not-slow e = absurd (let z : _≡_ {A = ℕ} 0 1 = cc in omega arith)
+
+loop-not-slow : {A : Type 0} {p q : ℕ} → Refused Looped p ≡ Refused TooSlow q → A
+loop-not-slow e = absurd (let z : _≡_ {A = ℕ} 0 1 = cc in omega arith)
 
 module _ (b : Board) (w : WellFormed b) (free : LoopFree b) where
   slow-shown : {ticks : ℕ} {path : List ℕ} → SlowPath b ticks path → SlowShown b (refusal 10 ticks) (trailOf path)
@@ -50,7 +59,7 @@ module _ (b : Board) (w : WellFormed b) (free : LoopFree b) where
   verdict-time : {a : Answer} {path : List ℕ} → Verdict b a path → TimeRefusal b a (trailOf path)
   verdict-time (looped {p = p} x) = record {
     given = λ way. absurd (free .none p (path-from b w (x .on)) (x .on));
-    only = λ place e. absurd (let z : _≡_ {A = ℕ} 0 1 = cc in omega arith);
+    only = λ place e. loop-not-slow e;
   }
   verdict-time (slow f x) = record { given = λ way. slow-shown x; only = λ place e. slow-shown x }
   verdict-time (fine f k) = record {
@@ -63,11 +72,11 @@ module _ (b : Board) (w : WellFormed b) (free : LoopFree b) where
 
 -- of a load whose file describes a board without a loop
 pub load-slow :
-    (d : Desk) (t : Tally) (r : Loaded) (s : List ℕ) (b : Board) → Describes s b → LoopFree b → LoadSaid d s t r →
+    (d : Desk) (t : Tally) (r : Loaded) (named : Rule) (s : List ℕ) (b : Board) → Describes named s b → LoopFree b → LoadSaid d (ruleNumber named) s t r →
     TimeRefusal b (r .answer) (r .path)
-load-slow d t r s b file free said =
-    let j : LoadJudged b d t r = subst (λ (p : Parse Board). LoadParsed p d t r) (file .read) (said .parsed) in
-    judged-time b (design-well-formed s b (file .size) (file .read)) free (j .judged)
+load-slow d t r named s b file free said =
+    let j : LoadJudged b d t r = subst (λ (p : Parse Board). LoadParsed p d t r) (file .read) (said-read d t r named s said .parsed) in
+    judged-time b (design-well-formed named s b (file .size) (file .read)) free (j .judged)
 
 -- of an order that none of 11, 18, 17, 7, 13, 14 and 15 meets, where the board as it would be has no loop
 pub order-slow :

@@ -42,7 +42,7 @@ use Rattle.demands.proofs.Commute.{boards-commute, fits-next, board-nex
 
 -- ---- a board that is tighter than another
 -- it has a link with the ends of x that takes no less
-record Longer (b : Board) (x : Link) : Type 0 where
+pub record Longer (b : Board) (x : Link) : Type 0 where
   at : ℕ
   here : at < b .links
   from : linkAt b at .from ≡ x .from

@@ -15,13 +15,13 @@ use Rattle.desk.specs.Order.{OrderSaid, counts}
 
 -- a board that is held, whatever tally each call was lent
 pub data Reached : Desk → Type 0 where
-  loaded : {d : Desk} {s : List ℕ} {t : Tally} {r : Loaded} → LoadSaid d s t r → r .answer ≡ Done → Reached (r .desk)
+  loaded : {d : Desk} {rule : ℕ} {s : List ℕ} {t : Tally} {r : Loaded} → LoadSaid d rule s t r → r .answer ≡ Done → Reached (r .desk)
   ordered : {d : Desk} {s : List ℕ} {t : Tally} {r : Ordered} → Reached d → OrderSaid d s t r → Reached (r .desk)
 
 -- "Where nobody else writes to it": each order is lent the tally that the call before it left. With the answers to the orders since the load, the
 -- last one first
 pub data Counting : Desk → Tally → List Answer → Type 0 where
-  since : {d : Desk} {s : List ℕ} {t : Tally} {r : Loaded} → LoadSaid d s t r → r .answer ≡ Done → Counting (r .desk) (r .tally) []
+  since : {d : Desk} {rule : ℕ} {s : List ℕ} {t : Tally} {r : Loaded} → LoadSaid d rule s t r → r .answer ≡ Done → Counting (r .desk) (r .tally) []
   after :
       {d : Desk} {t : Tally} {answers : List Answer} {s : List ℕ} {r : Ordered} → Counting d t answers → OrderSaid d s t r →
       Counting (r .desk) (r .tally) (r .answer ∷ answers)

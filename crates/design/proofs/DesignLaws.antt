@@ -26,9 +26,10 @@ use Rattle.fields.proofs.CurveFileLaws.{curve-good, curve-next, curve-reads-bac
 use Rattle.board.specs.declared.Rule.{Rule}
 use Rattle.board.specs.declared.Link.{Link}
 use Rattle.board.specs.declared.Board.{Board}
-use Rattle.board.specs.Board.{noCurve, plainLink, noLink, blankCurve, curveAt, linkAt, delayOf, order, WellFormed}
+use Rattle.board.specs.Board.{noCurve, plainLink, noLink, blankCurve, curveAt, linkAt, delayOf, order, underRule, WellFormed}
 use Rattle.board.specs.Tests.{blankCurves, blankLinks, belowOf}
 use Rattle.board.proofs.LinkLaws.{passed, link-same, below-one, below-order}
+use Rattle.board.proofs.UsableLaws.{under-well}
 use Rattle.design.specs.declared.Head.{Head}
 use Rattle.design.specs.Design.{versionAt, partFrom, partsFrom, above, linkFrom, linkIn, linksFrom, wholeAt, boardOf, linkedFrom, bodyFrom, headFrom, designOf, linkBytes, partsBytes, linksBytes, linkedBytes, bodyBytes, headBytes, fileOf}
 use Rattle.design.proofs.Rows.{RowRead, row-read, row-reads-back}
@@ -357,3 +358,8 @@ module _ (b : Board) (w : WellFormed b) where
         parts-size,
         links-size,
       )
+
+-- read under another rule it is the board that differs in the rule alone
+pub written-read-under : (rule : Rule) (b : Board) → WellFormed b → designOf rule (fileOf b) ≡ got (underRule rule b) (length (fileOf b))
+unfolding underRule fileOf headBytes bodyBytes linkedBytes partsBytes linksBytes
+written-read-under rule b w = written-read (underRule rule b) (under-well rule b w)

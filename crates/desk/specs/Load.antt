@@ -1,12 +1,15 @@
 -- Demand 2: "A load is accepted, and holds the board that its file describes, exactly when no listed refusal applies."
 -- Assumes nothing.
 use mathlib.Core.Path.{_≡_}
+use mathlib.Core.Logic.{_≢_}
 use mathlib.Core.List.{List, []}
 use Prim.Native.Nat.{ℕ}
+use Rattle.refusal.specs.Refusal.{refusal}
 use Rattle.refusal.specs.declared.Answer.{Answer}
 use Rattle.refusal.specs.declared.Answer.the-variants.{Done, Refused}
-use Rattle.board.specs.declared.Rule.the-variants.{A}
+use Rattle.board.specs.declared.Rule.{Rule}
 use Rattle.board.specs.declared.Board.{Board}
+use Rattle.board.specs.Board.{ruleNumber}
 use Rattle.slow.specs.Walk.{trailOf}
 use Rattle.fields.specs.Parse.{Parse, got, stop}
 use Rattle.design.specs.Design.{designOf}
@@ -37,5 +40,11 @@ abbrev pub LoadParsed : Parse Board → Desk → Tally → Loaded → Type 0
 LoadParsed (stop why place) d t r = r ≡ loadRefused (Refused why place) [] d t
 LoadParsed (got b next) d t r = LoadJudged b d t r
 
-pub record LoadSaid (d : Desk) (s : List ℕ) (t : Tally) (r : Loaded) : Type 0 where
-  pub parsed : LoadParsed (designOf A s) d t r
+-- .. under a rule
+pub record LoadRead (d : Desk) (rule : Rule) (s : List ℕ) (t : Tally) (r : Loaded) : Type 0 where
+  pub parsed : LoadParsed (designOf rule s) d t r
+
+-- 02, Req 06: "the caller of a load names the rule"; "Refusals: 22, a rule that is neither A nor B, place 0, before all reading"
+pub data LoadSaid (d : Desk) (rule : ℕ) (s : List ℕ) (t : Tally) (r : Loaded) : Type 0 where
+  unruled : ((named : Rule) → rule ≢ ruleNumber named) → r ≡ loadRefused (refusal 22 0) [] d t → LoadSaid d rule s t r
+  ruled : (named : Rule) → rule ≡ ruleNumber named → LoadRead d named s t r → LoadSaid d rule s t r

@@ -27,7 +27,7 @@ same-desk d d′ e e′ is is′ same = rw (is, is′) same
 pub loads-once : (s : List ℕ) (d d′ : Desk) → LoadOf s d → LoadOf s d′ → SameDesk d d′
 loads-once s d d′ l l′ =
     same-desk d d′ (l .load .desk) (l′ .load .desk) (l .desk) (l′ .desk)
-    (load-once emptyDesk noTally s (l .load) (l′ .load) (l .said) (l′ .said) .desk)
+    (load-once emptyDesk noTally 0 s (l .load) (l′ .load) (l .said) (l′ .said) .desk)
 
 pub total-once : (s : List ℕ) (r r′ : ℕ) → TotalOf s r → TotalOf s r′ → r ≡ r′
 total-once s r r′ t t′ =
@@ -46,7 +46,7 @@ loaded-once s = last-once (TotalOf s) (total-once s)
 
 -- ---- the set upstream, which no advice changes either
 load-stands : (s : List ℕ) (d : Desk) → LoadOf s d → Standing d
-load-stands s d l = rw (l .desk) (load-standing emptyDesk noTally empty-stands s (l .load) (l .said))
+load-stands s d l = rw (l .desk) (load-standing emptyDesk noTally empty-stands 0 s (l .load) (l .said))
 
 -- a question that is tried alike on two standing desks is answered alike
 said-as :

@@ -13,7 +13,7 @@ use Rattle.questions.specs.declared.ConeAsked.{ConeAsked}
 use Rattle.questions.specs.Sets.{UpstreamSaid}
 use Rattle.hosted.specs.Hosted.{LoadOf, TotalOf, UpstreamOf, LastOf, never, found, UpstreamAsked}
 
-pub load-of : (s : List ℕ) (e : Desk) (l : Loaded) → e ≡ emptyDesk → LoadSaid e s (record { taken = 0; refused = 0 }) l → LoadOf s (l .desk)
+pub load-of : (s : List ℕ) (e : Desk) (l : Loaded) → e ≡ emptyDesk → LoadSaid e 0 s (record { taken = 0; refused = 0 }) l → LoadOf s (l .desk)
 load-of s e l is said = record { load = l; said = rw is at said; desk = refl }
 
 pub total-of : (s : List ℕ) (d : Desk) → LoadOf s d → TotalOf s (d .budget .total)

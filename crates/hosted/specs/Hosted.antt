@@ -10,10 +10,10 @@ use Rattle.desk.specs.Load.{noTally, LoadSaid}
 use Rattle.questions.specs.declared.ConeAsked.{ConeAsked}
 use Rattle.questions.specs.Sets.{UpstreamSaid}
 
--- the desk after a load of the bytes s on an empty one
+-- the desk after a load of the bytes s on an empty one, under rule A
 pub record LoadOf (s : List ℕ) (d : Desk) : Type 0 where
   pub load : Loaded
-  pub said : LoadSaid emptyDesk s noTally load
+  pub said : LoadSaid emptyDesk 0 s noTally load
   pub desk : d ≡ load .desk
 
 -- the total that is held after it; an empty desk's is 0

@@ -2,12 +2,11 @@
 -- Assumes nothing.
 use mathlib.Core.Path.{_≡_, refl, sym, _∙_}
 use mathlib.Core.List.{List}
-use Prim.Native.Nat.{ℕ, zero, suc, _+_, _*_, _≤_, _<_}
+use Prim.Native.Nat.{ℕ, zero, suc, _≤_, _<_}
 use native.Mathlib.Omega.{arith}
 use native.Mathlib.Decide.{decLt, ℕ-discrete}
 use borrow.Author.Tests.{lt-ltb, le-ltb}
-use lib.ListN.{length, List·getD-eq-default}
-use Rattle.theory.specs.Sum.{sum, cells}
+use Rattle.theory.specs.Sum.{sum}
 use Rattle.theory.specs.Saving.{tick, before}
 use Rattle.theory.proofs.RunLaws.{tick-past}
 use Rattle.nets.specs.Net.{lengthAt, savingAt, gainOf}
@@ -34,15 +33,6 @@ module _ (length saving : ℕ → ℕ) where
       ]
 
 module _ (lengths savings : List ℕ) (a : ℕ) where
-  -- the gain of an arc with r runs, where the others have length 0
-  pub gain-runs : (r : ℕ) → r ≤ 4 → ((i : ℕ) → r ≤ i → i < 4 → lengthAt lengths a i ≡ 0) → (j : ℕ) → gainOf lengths savings a j ≡ tick (lengthAt lengths a) (savingAt savings a) r j
-  unfolding gainOf
-  gain-runs r l h j = tick-blank (lengthAt lengths a) (savingAt savings a) r 4 l h j
-
   pub gain-none : ((i : ℕ) → i < 4 → lengthAt lengths a i ≡ 0) → (j : ℕ) → gainOf lengths savings a j ≡ 0
-  unfolding tick
-  gain-none h j = gain-runs 0 (omega arith) (λ i l k. h i k) j
-
-  -- arcs from 64 on have no runs
-  pub gain-flat : length lengths ≡ 256 → 64 ≤ a → (j : ℕ) → gainOf lengths savings a j ≡ 0
-  gain-flat e l = gain-none (λ i k. List·getD-eq-default lengths 0 (omega (arith, e)))
+  unfolding gainOf tick
+  gain-none h j = tick-blank (lengthAt lengths a) (savingAt savings a) 0 4 (omega arith) (λ i l k. h i k) j

@@ -1,8 +1,7 @@
--- From the board to the network: times that are slack with loads fit them as times of nodes. So the first times are the budget held, and where
--- no times fit, none are slack.
+-- From the graph to the network: times that are slack with loads fit them as times of nodes. So the first times are the budget held.
 -- Assumes nothing.
 use mathlib.Core.Path.{_≡_, refl, ap, _∙_}
-use mathlib.Core.Bool.{Bool, true, false, cond}
+use mathlib.Core.Bool.{cond}
 use Prim.Native.Nat.{ℕ, _+_, _-_, _≤_, _<_}
 use native.Mathlib.Omega.{arith}
 use native.Mathlib.Decide.{decLt}
@@ -12,7 +11,7 @@ use Rattle.theory.specs.Graph.{Graph, Times, Lawful, Feasible, Slack}
 use Rattle.theory.specs.Budget.{NoLater, Held}
 use Rattle.theory.proofs.Earliest.{earliest-held}
 use Rattle.nets.specs.Net.{Net}
-use Rattle.nets.specs.Flow.{Fit, Balanced, First, Never, Decided}
+use Rattle.nets.specs.Flow.{Fit, Balanced, First}
 use Rattle.nets.specs.Wired.{Wired, linkArc, entryArc, exitArc, timesOf, flowOf}
 use Rattle.nets.proofs.Arcs.{each-arc}
 use Rattle.nets.proofs.Bridge.{fits-feasible, fits-slack, balanced-conserves}
@@ -22,11 +21,11 @@ unfoldable pub nodes : Times → ℕ → ℕ → ℕ
 nodes τ T v = cond (ltb v 64) (τ .start v) (cond (ltb v 128) (τ .end (v - 64)) (cond (ltb v 129) 0 T))
 
 module _ (τ : Times) (T : ℕ) where
-  nodes-start : (p : ℕ) → p < 64 → nodes τ T p ≡ τ .start p
+  pub nodes-start : (p : ℕ) → p < 64 → nodes τ T p ≡ τ .start p
   unfolding nodes
   nodes-start p h = rw (lt-ltb p 64 h)
 
-  nodes-end : (p : ℕ) → p < 64 → nodes τ T (64 + p) ≡ τ .end p
+  pub nodes-end : (p : ℕ) → p < 64 → nodes τ T (64 + p) ≡ τ .end p
   unfolding nodes
   nodes-end p h =
       let a : 64 ≤ 64 + p = omega arith in
@@ -34,11 +33,11 @@ module _ (τ : Times) (T : ℕ) where
       let d : 64 + p - 64 ≡ p = omega arith in
       rw (le-ltb (64 + p) 64 a, lt-ltb (64 + p) 128 b, d)
 
-  nodes-source : nodes τ T 128 ≡ 0
+  pub nodes-source : nodes τ T 128 ≡ 0
   unfolding nodes
   nodes-source = refl
 
-  nodes-sink : nodes τ T 129 ≡ T
+  pub nodes-sink : nodes τ T 129 ≡ T
   unfolding nodes
   nodes-sink = refl
 
@@ -105,7 +104,7 @@ module _ (G : Graph) (o : Lawful G) (N : Net) (w : Wired G N) (x : ℕ → ℕ) 
   start-most : (p : ℕ) → p < parts → u p ≤ T
   start-most p h = omega (arith, start-at p h, f .spans p h, f .ends p h)
 
-  nodes-most : (a : ℕ) → a < N .arcs → u (N .head a) ≤ T
+  pub nodes-most : (a : ℕ) → a < N .arcs → u (N .head a) ≤ T
   nodes-most =
       each-arc G (λ a. u (N .head a) ≤ T)
       (λ p h. omega (arith, ap u (w .part-head p h), end-at p h, f .ends p h))
@@ -114,18 +113,8 @@ module _ (G : Graph) (o : Lawful G) (N : Net) (w : Wired G N) (x : ℕ → ℕ) 
       (λ p h. omega (arith, ap u (w .exit-head p h), nodes-sink τ T))
       (N .arcs) (w .arcs)
 
--- ---- the verdict
+-- ---- the first times
 module _ (G : Graph) (o : Lawful G) (N : Net) (w : Wired G N) (due : ℕ) (x : ℕ → ℕ) where
-  -- where no times fit the loads, no times are slack with them
-  pub never-slack : Never N due x → (τ : Times) → Feasible G due τ → Slack G due τ (flowOf G x) → ⊥
-  never-slack n τ f k =
-      n .none (nodes τ due) (slack-fits G o N w x f k) (nodes-source τ due) (nodes-sink τ due) (nodes-most G o N w x f k)
-
-  -- so the verdict is yes wherever some times that keep the deadline are slack with the loads
-  pub slack-yes : (t : ℕ → ℕ) (r : Bool) → Decided N due x t r → (τ : Times) → Feasible G due τ → Slack G due τ (flowOf G x) → r ≡ true
-  slack-yes t true v τ f k = refl
-  slack-yes t false v τ f k = absurd (never-slack (v .no refl) τ f k)
-
   -- the first times that fit are feasible and slack, and with loads that balance they are the budget held
   module _ (t : ℕ → ℕ) (r : First N due x t) where
     pub first-feasible : Feasible G due (timesOf G t)

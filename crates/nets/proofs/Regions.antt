@@ -70,6 +70,3 @@ module _ (from n : ℕ) where
   -- every region apart from the stretch is as it was
   pub only-apart : (s s′ : List ℕ) (at m : ℕ) → Only from n s s′ → ((i : ℕ) → i < m → from ≤ at + i → from + n ≤ at + i) → region s′ at m ≡ region s at m
   only-apart s s′ at m o apart = region-ext s s′ at m (λ i h. o .same (at + i) (apart i h))
-
-pub only-wider : (from n from′ n′ : ℕ) (s s′ : List ℕ) → Only from n s s′ → from′ ≤ from → from + n ≤ from′ + n′ → Only from′ n′ s s′
-only-wider from n from′ n′ s s′ o l h = record { same = λ i apart. o .same i (λ k. omega (arith, apart (omega arith))) }

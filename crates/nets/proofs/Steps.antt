@@ -9,7 +9,7 @@ use native.Mathlib.Decide.{ℕ-discrete}
 use Rattle.theory.specs.Sum.{sum, share, into, More}
 use Rattle.theory.proofs.SumLaws.{sum-ext, sum-ge, sum-change, sum-const, share-eq, share-ne, into-more}
 use Rattle.nets.specs.Net.{Net}
-use Rattle.nets.specs.Flow.{Fit, Flows, Lowers, World, First, Sheet}
+use Rattle.nets.specs.Flow.{Fit, Flows, Lowers, World, First, Never, Sheet}
 use Rattle.nets.specs.Judge.{Rises, Falls, Shrinks, Stretches, Leads, Leads.on, Leads.back, Open}
 use Rattle.nets.specs.Label.{lack, ticks, arcOf, After, Way, Way.on, Way.back, Led, Labels, Fresh}
 use Rattle.nets.specs.Steps.{Moved}
@@ -366,3 +366,17 @@ module _ (N : Net) (x x′ : ℕ → ℕ) (same : (a : ℕ) → a < N .arcs → 
     small = λ a h. omega (arith, same a h, s .small a h);
     balanced = record { balance = λ v h. into-agrees (N .head) v ∙ s .balanced .balance v h ∙ sym (into-agrees (N .tail) v) };
   }
+
+-- ---- one verdict on loads
+module _ (N : Net) (due : ℕ) (x : ℕ → ℕ) where
+  -- the first times are one
+  pub first-once : (t t′ : ℕ → ℕ) → First N due x t → First N due x t′ → (v : ℕ) → v < 130 → t v ≡ t′ v
+  first-once t t′ f g v h =
+      omega (arith, f .least t′ (g .fit) (omega (arith, g .end)) v h, g .least t (f .fit) (omega (arith, f .end)) v h)
+
+  -- where times fit the loads and end at the deadline, the verdict is not no
+  pub flows-not-never : World N due → (t : ℕ → ℕ) → Flows N t x → t 129 ≡ due → Never N due x → ⊥
+  flows-not-never w t f e n = n .none t (f .fit) (f .root) e (λ a h. omega (arith, e, w .inside t x f a h))
+
+  pub first-not-never : World N due → Sheet (N .arcs) (N .tail) (N .head) x → (t : ℕ → ℕ) → First N due x t → Never N due x → ⊥
+  first-not-never w s t f = flows-not-never w t (record { fit = f .fit; root = f .root; balanced = s .balanced }) (f .end)

@@ -1,51 +1,54 @@
 // Reads and writes numbers at every boundary (01, Files; refusals 1 and 2) and prints a line for each.
+use console::PAGE;
 use groups::GROUPS;
 use groups::Read;
-use libc::STDOUT_FILENO;
 
 // Room for any number with bytes on both sides, and with one byte before it.
 const WIDE: usize = GROUPS + 3;
 
 const TIGHT: usize = GROUPS + 1;
 
-// A word and a number.
-fn print(word: &[u8], n: u64) {
-    io::write_all(STDOUT_FILENO, word);
-    io::print_decimal(STDOUT_FILENO, n);
-}
-
-fn print_bytes(s: &[u8]) {
+fn put_bytes(page: &mut [u8; PAGE], at: usize, s: &[u8]) -> usize {
+    let mut end = at;
     let mut i: usize = 0;
     while i < s.len() {
-        print(b" ", wide(s[i]));
+        end = console::number(page, end, b" ", wide(s[i]));
         i = i + 1;
     }
+    end
 }
 
 fn wide(x: u8) -> u64 {
     x as u64
 }
 
-fn end_line() {
-    io::write_all(STDOUT_FILENO, b"\n");
+// Ends the line and writes it.
+fn print_line(page: &mut [u8; PAGE], at: usize) {
+    let end = console::end_line(page, at);
+    console::write_out(page, end);
 }
 
 // What is read at a place.
 fn read(s: &[u8], at: usize) {
-    io::write_all(STDOUT_FILENO, b"read");
-    print_bytes(s);
-    print(b" at ", at as u64);
-    match groups::read_number(s, at) {
+    let mut page = [0u8; PAGE];
+    let named = console::text(&mut page, 0, b"read");
+    let shown = put_bytes(&mut page, named, s);
+    let placed = console::number(&mut page, shown, b" at ", at as u64);
+    let end = put_read(&mut page, placed, groups::read_number(s, at));
+    print_line(&mut page, end);
+}
+
+fn put_read(page: &mut [u8; PAGE], at: usize, read: Read) -> usize {
+    match read {
         Read::Number { value, next } => {
-            print(b": number ", value as u64);
-            print(b" next ", next as u64);
+            let valued = console::number(page, at, b": number ", value as u64);
+            console::number(page, valued, b" next ", next as u64)
         }
         Read::Refused { why, place } => {
-            print(b": refused ", refusal::number(why) as u64);
-            print(b" place ", place as u64);
+            let refused = console::number(page, at, b": refused ", refusal::number(why) as u64);
+            console::number(page, refused, b" place ", place as u64)
         }
     }
-    end_line();
 }
 
 // What is read at each place, at the end, and at the greatest place there is.
@@ -72,19 +75,25 @@ fn read_prefixes(s: &[u8]) {
 // What a buffer holds after a number is written at a place of it.
 fn write(buf: &mut [u8], at: usize, n: u32) {
     let next = groups::write_number(buf, at, n);
-    print(b"write ", n as u64);
-    print(b" at ", at as u64);
-    print(b": next ", next as u64);
-    io::write_all(STDOUT_FILENO, b" bytes");
-    print_bytes(buf);
-    end_line();
+    let mut page = [0u8; PAGE];
+    let named = console::number(&mut page, 0, b"write ", n as u64);
+    let placed = console::number(&mut page, named, b" at ", at as u64);
+    let ended = console::number(&mut page, placed, b": next ", next as u64);
+    let bytes = console::text(&mut page, ended, b" bytes");
+    let end = put_bytes(&mut page, bytes, buf);
+    print_line(&mut page, end);
+}
+
+fn print_size(n: u32) {
+    let mut page = [0u8; PAGE];
+    let named = console::number(&mut page, 0, b"number ", n as u64);
+    let sized = console::number(&mut page, named, b" size ", groups::size(n) as u64);
+    print_line(&mut page, sized);
 }
 
 // A number: its size; written with bytes on both sides, and read back; written where there is little room, or none.
 fn number(n: u32) {
-    print(b"number ", n as u64);
-    print(b" size ", groups::size(n) as u64);
-    end_line();
+    print_size(n);
     let mut wide_buffer = [9u8; WIDE];
     write(&mut wide_buffer, 2, n);
     read(&wide_buffer, 2);

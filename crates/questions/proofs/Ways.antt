@@ -9,6 +9,8 @@ use Rattle.base.specs.Pick.{pick}
 use Rattle.refusal.specs.declared.Answer.{Answer}
 use Rattle.refusal.specs.declared.Answer.the-variants.{Done}
 use Rattle.kin.specs.Critical.{criticalAt}
+use Rattle.board.specs.declared.Rule.the-variants.{A}
+use Rattle.board.specs.Board.{usable}
 use Rattle.desk.specs.declared.Desk.{Desk}
 use Rattle.questions.specs.Tried.{noBoard, noPart, partTried}
 use Rattle.questions.specs.Sets.{countedOf}
@@ -40,13 +42,13 @@ critical-so d l t is = is
 -- ---- `whole`
 module _ (d : Desk) where
   pub whole-held :
-      not (d .held) ≡ false →
-      record { answer = Done; deadline = d .board .deadline; parts = d .board .parts; links = d .board .links; total = d .budget .total } ≡ wholeAsked d
+      (u : ℕ) → not (d .held) ≡ false → u ≡ usable (d .board) →
+      record { answer = Done; rule = d .board .rule; deadline = d .board .deadline; usable = record { 0 = u }; parts = d .board .parts; links = d .board .links; total = d .budget .total } ≡ wholeAsked d
   unfolding wholeAsked pick
-  whole-held held = rw (not-false (d .held) held)
+  whole-held u held e = rw (not-false (d .held) held, e)
 
   pub whole-none :
       (a : Answer) → not (d .held) ≡ true → a ≡ noBoard →
-      record { answer = a; deadline = record { 0 = 0 }; parts = 0; links = 0; total = 0 } ≡ wholeAsked d
+      record { answer = a; rule = A; deadline = record { 0 = 0 }; usable = record { 0 = 0 }; parts = 0; links = 0; total = 0 } ≡ wholeAsked d
   unfolding wholeAsked pick
   whole-none a none e = rw (not-true (d .held) none, e)

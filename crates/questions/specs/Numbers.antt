@@ -10,7 +10,8 @@ use Rattle.refusal.specs.declared.Answer.the-variants.{Done, Refused}
 use Rattle.curve.specs.declared.Power.{Power}
 use Rattle.curve.specs.declared.Power.the-variants as power
 use Rattle.curve.specs.Answers.{powerAtOf}
-use Rattle.board.specs.Board.{curveAt}
+use Rattle.board.specs.declared.Rule.the-variants.{A}
+use Rattle.board.specs.Board.{curveAt, usable}
 use Rattle.budget.specs.declared.Budget.{Budget}
 use Rattle.desk.specs.declared.Desk.{Desk}
 use Rattle.questions.specs.declared.PowerAsked.{PowerAsked}
@@ -57,9 +58,11 @@ wholeAsked d =
     pick (d .held)
     (record {
       answer = Done;
+      rule = d .board .rule;
       deadline = d .board .deadline;
+      usable = record { 0 = usable (d .board) };
       parts = d .board .parts;
       links = d .board .links;
       total = d .budget .total;
     })
-    (record { answer = noBoard; deadline = record { 0 = 0 }; parts = 0; links = 0; total = 0 })
+    (record { answer = noBoard; rule = A; deadline = record { 0 = 0 }; usable = record { 0 = 0 }; parts = 0; links = 0; total = 0 })

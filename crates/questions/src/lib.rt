@@ -1,4 +1,5 @@
 // Questions about a held board. Any desk may be asked and any number asked for: 11 where no board is held, 17 where the board has no such part.
+use board::Rule;
 use curve::Curve;
 use curve::Microwatts;
 use curve::Power;
@@ -49,10 +50,12 @@ pub struct PartAsked {
     pub power: Microwatts,
 }
 
-// The deadline, how many parts and links there are, and what all parts draw together.
+// The rule, the deadline and how much of it is usable, how many parts and links there are, and what all parts draw together.
 pub struct WholeAsked {
     pub answer: Answer,
+    pub rule: Rule,
     pub deadline: Ticks,
+    pub usable: Ticks,
     pub parts: usize,
     pub links: usize,
     pub total: u64,
@@ -273,18 +276,25 @@ pub fn whole(d: Desk) -> WholeAsked
     if !d.held {
         return WholeAsked {
             answer: no_board(),
+            rule: Rule::A,
             deadline: Ticks(0),
+            usable: Ticks(0),
             parts: 0,
             links: 0,
             total: 0,
         };
     }
-    let deadline = d.board.deadline;
+    let b = d.board;
+    let rule = b.rule;
+    let deadline = b.deadline;
+    let usable = Ticks(board::usable_deadline(b));
     WholeAsked {
         answer: Answer::Done,
+        rule,
         deadline: deadline,
-        parts: d.board.parts,
-        links: d.board.links,
+        usable,
+        parts: b.parts,
+        links: b.links,
         total: d.budget.total,
     }
 }

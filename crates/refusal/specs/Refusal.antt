@@ -31,6 +31,9 @@ use Rattle.refusal.specs.declared.Why.the-variants.{
   TallyFull,
   OffCurve,
   NoLabel,
+  NoKind,
+  NoRule,
+  NotVersion1,
 }
 
 -- 01, What is refused: "Each refusal gives its number and a place." The number of each row of the table
@@ -55,6 +58,9 @@ numberOf NoPart = 17  -- no such part on the board
 numberOf TallyFull = 18  -- tally's sum is 65,535 or more
 numberOf OffCurve = 19  -- delay outside the part's curve
 numberOf NoLabel = 20  -- sheet has no such line or no good label there
+numberOf NoKind = 21  -- 02, Req 04: the kind is in neither library
+numberOf NoRule = 22  -- 02, Req 06: a rule that is neither A nor B
+numberOf NotVersion1 = 23  -- 02, Req 07: cannot be written as version 1
 
 -- the rows of the table, in its order
 abbrev pub rows : List Why
@@ -79,6 +85,9 @@ rows =
     ∷ TallyFull
     ∷ OffCurve
     ∷ NoLabel
+    ∷ NoKind
+    ∷ NoRule
+    ∷ NotVersion1
     ∷ []
 
 -- the refusal that has a number (`by-number`)

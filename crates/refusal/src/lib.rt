@@ -1,4 +1,4 @@
-// The refusals of document 01, by name, in the order of its table. The place stands beside the name in every answer.
+// The refusals of documents 01 and 02, by name, in the order of its table. The place stands beside the name in every answer.
 ghost use mathlib.Core.Path.{_≡_};
 ghost use Rattle.refusal.specs.Refusal.{numberOf};
 
@@ -23,6 +23,9 @@ pub enum Why {
     TallyFull,
     OffCurve,
     NoLabel,
+    NoKind,
+    NoRule,
+    NotVersion1,
 }
 
 // What a call comes to: it was done, or why it was refused and the refusal's place.
@@ -56,5 +59,8 @@ pub fn number(w: Why) -> u8
         Why::TallyFull => 18,
         Why::OffCurve => 19,
         Why::NoLabel => 20,
+        Why::NoKind => 21,
+        Why::NoRule => 22,
+        Why::NotVersion1 => 23,
     }
 }

@@ -94,9 +94,9 @@ pub session-once :
     (file first second : List ℕ) (r r′ : SessionEnd) → SessionSaid file first second r → SessionSaid file first second r′ →
     SameOrdered (r .last) (r′ .last) × (r .tally ≡ r′ .tally)
 session-once file first second r r′ one two =
-    let loads = load-once emptyDesk noTally file (one .load) (two .load) (one .loaded) (two .loaded) in
-    let stand = load-standing emptyDesk noTally empty-stands file (one .load) (one .loaded) in
-    let stand′ = load-standing emptyDesk noTally empty-stands file (two .load) (two .loaded) in
+    let loads = load-once emptyDesk noTally 0 file (one .load) (two .load) (one .loaded) (two .loaded) in
+    let stand = load-standing emptyDesk noTally empty-stands 0 file (one .load) (one .loaded) in
+    let stand′ = load-standing emptyDesk noTally empty-stands 0 file (two .load) (two .loaded) in
     let said = one .ordered .said stand in
     let said′ = two .ordered .said stand′ in
     let orders =

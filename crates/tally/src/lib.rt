@@ -5,11 +5,11 @@ use desk::Ordered;
 use desk::Tally;
 ghost use Rattle.tally.specs.Lent.{LentLoad, LentOrder, SessionSaid};
 
-// Loads a board, with the tally lent: an accepted load sets it to zero where it stands, a refused one leaves it.
-pub fn load(d: Desk, file: &[u8], t: &mut Tally) -> Loaded
-    ensures { λ r. ⌜ LentLoad d (now (file .entry)) (now (t .entry)) r (now (t .exit)) ⌝ }
+// Loads a board under the rule that is named, with the tally lent: an accepted load sets it to zero where it stands, a refused one leaves it.
+pub fn load(d: Desk, rule: u32, file: &[u8], t: &mut Tally) -> Loaded
+    ensures { λ r. ⌜ LentLoad d rule (now (file .entry)) (now (t .entry)) r (now (t .exit)) ⌝ }
 {
-    let l = desk::load(d, file, *t);
+    let l = desk::load(d, rule, file, *t);
     *t = l.tally;
     l
 }
@@ -22,6 +22,9 @@ pub fn order(d: Desk, bytes: &[u8], t: &mut Tally) -> Ordered
     *t = o.tally;
     o
 }
+
+// A session's load names rule A.
+const RULE_A: u32 = 0;
 
 // What a session comes to: its last order, and the tally that was lent.
 pub struct SessionEnd {
@@ -37,7 +40,7 @@ pub fn session(file: &[u8], first: &[u8], second: &[u8]) -> SessionEnd
         taken: 0,
         refused: 0,
     };
-    let l = load(desk::empty(), file, &mut t);
+    let l = load(desk::empty(), RULE_A, file, &mut t);
     let a = order(l.desk, first, &mut t);
     let b = order(a.desk, second, &mut t);
     SessionEnd { last: b, tally: t }

@@ -84,7 +84,7 @@ pub fn board_of(shape: Shape, curves: Curves, haste: Haste, rng: &mut Rng) -> Bo
 /// A board whose file has every field: a part with a run, and a link.
 pub fn with_every_field() -> Board {
     let sloped = Curve { fastest: 2, power: 100, runs: vec![Run { length: 2, saving: 20 }] };
-    Board { deadline: 10, curves: vec![sloped, flat(1)], links: BTreeSet::from([(0, 1)]) }
+    Board { rule: Rule::A, deadline: 10, curves: vec![sloped, flat(1)], links: BTreeSet::from([(0, 1)]) }
 }
 
 /// A board with so few budgets that most often all can be tried.
@@ -97,7 +97,8 @@ pub fn tiny_board(rng: &mut Rng) -> Board {
 
 pub fn sized_board(parts: usize, shape: Shape, curves: Curves, haste: Haste, rng: &mut Rng) -> Board {
     let links = links(parts, shape, rng);
-    let mut board = Board { deadline: rng.between(1, MOST_DEADLINE), curves: vec![flat(1); parts], links };
+    let any = rng.between(1, MOST_DEADLINE);
+    let mut board = Board { rule: Rule::A, deadline: any, curves: vec![flat(1); parts], links };
     if board.lowest_part_on_a_loop().is_some() {
         board.curves = some_curves(parts, curves, MOST_FASTEST, rng);
         return board;

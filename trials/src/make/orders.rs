@@ -18,9 +18,9 @@ pub fn order(board: &Board, rng: &mut Rng) -> Order {
 fn deadline(board: &Board, rng: &mut Rng) -> u32 {
     let fastest = board.fastest_path_ticks();
     let ticks = match rng.below(8) {
-        0 => fastest,
-        1 => fastest - 1,
-        2 => fastest + 1,
+        0 => due(board, fastest),
+        1 => due(board, fastest) - 1,
+        2 => due(board, fastest) + 1,
         3 => board.deadline,
         4 => board.deadline - 1,
         5 => board.deadline + 1,
@@ -28,6 +28,14 @@ fn deadline(board: &Board, rng: &mut Rng) -> u32 {
         _ => rng.between(fastest, 2 * fastest),
     };
     ticks.clamp(1, MOST_DEADLINE)
+}
+
+/// A deadline of which so many ticks are usable.
+fn due(board: &Board, usable: u32) -> u32 {
+    match board.rule {
+        Rule::A => usable,
+        Rule::B => usable + usable / 63,
+    }
 }
 
 /// A part of the board; once in 30 any number that can be read.

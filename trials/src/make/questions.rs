@@ -15,7 +15,7 @@ pub fn questions(count: usize, rng: &mut Rng) -> Vec<Call> {
         if rng.once_in(2) {
             calls.push(Call::Drop);
         }
-        calls.push(Call::Rule(number(rng)));
+        calls.push(Call::Rule(super::rule(rng)));
         let length = file.len();
         if !rng.once_in(16) {
             calls.push(Call::Load(file));

@@ -44,12 +44,13 @@ fn session(rng: &mut Rng) -> Vec<Call> {
 }
 
 impl Session {
-    /// A board; one in sixteen is damaged.
+    /// A board under either rule; one in sixteen is damaged.
     fn load(&mut self, rng: &mut Rng) {
         let board = boards::board(rng);
         let file = if rng.once_in(16) { damage::design(&board, rng) } else { write_design(&board) };
-        let _ = self.desk.load(&file, &mut self.tally);
-        self.calls.push(Call::Load(file));
+        let rule = super::rule(rng);
+        let _ = self.desk.load(rule, &file, &mut self.tally);
+        self.calls.extend([Call::Rule(rule), Call::Load(file)]);
     }
 
     /// An order, half of them with bytes of another behind it.

@@ -104,9 +104,29 @@ fn tallies() -> Vec<Call> {
     calls
 }
 
+/// Both rules: the edge of a deadline, numbers that name no rule, a second load
+/// under the other rule, and a board that one rule allows alone.
+fn rules() -> Vec<Call> {
+    let mut calls = Vec::new();
+    // One part of 1 to 256 ticks, deadlines 63, 64 and 128; then one of 64 to 64.
+    let curve = "01 BC 32 01 FF 01 19";
+    for (rule, deadline) in [(0, "3F"), (1, "3F"), (0, "40"), (1, "40"), (1, "80 01"), (0, "80 01")] {
+        calls.extend([Call::Rule(rule), load(&format!("01 {deadline} 01 {curve} 00")), Call::State]);
+    }
+    for rule in [2, 1 << 32, (1 << 32) + 1, u64::MAX] {
+        calls.extend([Call::Rule(rule), load(K), load("00"), Call::State]);
+    }
+    for rule in [1, 0] {
+        calls.extend([Call::Rule(rule), load("01 40 01 40 00 00 00"), Call::State]);
+    }
+    calls.extend([Call::Rule(1), load(K), order("01 80 01"), Call::State, Call::Rule(0), order("01 3F"), Call::State]);
+    calls.extend([load("00"), Call::State, load(K)]);
+    calls
+}
+
 /// All of them, and last a call that is cut short.
 pub fn tour() -> Vec<u8> {
-    let calls = [on_an_empty_desk(), cases(), questions(), tallies()].concat();
+    let calls = [on_an_empty_desk(), cases(), questions(), tallies(), rules()].concat();
     let mut script = crate::calls::script(&calls);
     let cut = Call::Power(0, 2).bytes();
     script.extend(&cut[..cut.len() - 1]);

@@ -1,7 +1,7 @@
 //! The paper's boards. Each test file takes what it needs.
 #![allow(dead_code)]
 
-use trials::board::{Board, Curve, Run};
+use trials::board::{Board, Curve, Rule, Run, RULE_A};
 use trials::desk::{Answer, Desk, Tally};
 use trials::file::write_design;
 
@@ -19,7 +19,7 @@ pub fn curve(fastest: u32, power: u32, runs: &[(u32, u32)]) -> Curve {
 }
 
 pub fn board(deadline: u32, curves: Vec<Curve>, links: &[(usize, usize)]) -> Board {
-    Board { deadline, curves, links: links.iter().copied().collect() }
+    Board { rule: Rule::A, deadline, curves, links: links.iter().copied().collect() }
 }
 
 pub fn board_k() -> Board {
@@ -51,7 +51,7 @@ pub struct Session {
 impl Session {
     pub fn with(board: &Board) -> Session {
         let mut session = Session { desk: Desk::default(), tally: Tally::default() };
-        session.desk.load(&write_design(board), &mut session.tally).expect("the board is accepted");
+        session.desk.load(RULE_A, &write_design(board), &mut session.tally).expect("the board is accepted");
         session
     }
 

@@ -16,6 +16,7 @@ use Rattle.nets.specs.Flow.{Fit, World, First, Never}
 use Rattle.mainloop.specs.Crashing.{CrashedIn}
 use Rattle.nets.specs.Sheet.{arcsIn, tailIn, headIn, netIn, timeIn, loadIn, GoodIn, WideIn}
 use Rattle.nets.proofs.Regions.{region-cell, only-apart}
+use Rattle.nets.proofs.Steps.{flows-not-never}
 use Rattle.deciding.specs.Raising.{DecidedIn, FilledIn}
 use Rattle.deciding.specs.Balancing.{SheetIn, BalancedIn}
 use Rattle.deciding.specs.Finding.{lateIn, PreparedIn, BegunIn, ProvesIn, AnsweredIn}
@@ -105,9 +106,7 @@ module _ (net : List ℕ) where
       world = p .wide .world
 
       fitted : Never (netIn net) due (cells (loadIn w₁)) → ⊥
-      fitted n =
-          let f = c .crashed .good .flows in
-          n .none (cells (timeIn w₁)) (f .fit) (f .root) ended (λ a h. omega (arith, ended, world .inside (cells (timeIn w₁)) (cells (loadIn w₁)) f a h))
+      fitted = flows-not-never (netIn net) due (cells (loadIn w₁)) world (cells (timeIn w₁)) (c .crashed .good .flows) ended
 
       taken : (w₂ : List ℕ) (r : Bool) → DecidedIn net due w₁ w₂ r → First (netIn net) due (cells (loadIn w₁)) (cells (timeIn w₂))
       taken w₂ true d = d .decided .yes refl
