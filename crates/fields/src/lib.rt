@@ -154,7 +154,11 @@ fn read_runs(s: &[u8], fastest: u32, power: u32, from: usize, at: usize) -> Curv
     match field(s, at, 0, 4) {
         Read::Refused { why, place } => refused(why, place),
         Read::Number { value: count, next } => {
-            let r = each_run(s, bare_curve(Ticks(fastest), Microwatts(power), count as usize), next);
+            let r = each_run(
+                s,
+                bare_curve(Ticks(fastest), Microwatts(power), count as usize),
+                next,
+            );
             let a = r.answer;
             let Answer::Done = a else {
                 return r;
