@@ -172,7 +172,8 @@ int main(int argc, char **argv) {
     if (!bundle || !lines) return 2;
     int wrong = 0;
     Ratios all;
-    std::printf("%-8s %5s %6s %10s %10s %7s %7s %7s\n", "shape", "parts", "boards", "us ours", "us LEMON", "mean", "geo", "worst");
+    std::printf("times ours, over LEMON's: totals, the ratio of total times; geo, the geometric mean of the boards' ratios; worst, the greatest of them\n");
+    std::printf("%-8s %5s %6s %10s %10s %7s %7s %7s\n", "shape", "parts", "boards", "us ours", "us LEMON", "totals", "geo", "worst");
     for (int parts : {8, 16, 32, 64}) for (const char *shape : SHAPES) {
         Ratios here;
         for (int percent : {0, 10, 30, 50, 75, 95}) for (int k = 0; k < boards; k++) {
