@@ -1,4 +1,4 @@
--- `solver::finding/begin` meets its contract.
+-- `solver::finding::begin` meets its contract.
 -- Assumes nothing.
 use Prim.Native.Nat.{_-_, _≤_}
 use Rattle.solver.specs.Finding.{Placing}

@@ -1,4 +1,4 @@
--- `solver::reading/nodes_from` meets its contract.
+-- `solver::reading::nodes_from` meets its contract.
 -- Assumes nothing.
 use mathlib.Core.Path.{_≡_}
 use Rattle.nets.specs.Sheet.{timeIn}
