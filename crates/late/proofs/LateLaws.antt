@@ -18,8 +18,9 @@ use Rattle.curve.specs.Rows.{noTicks, ticksAt}
 use Rattle.curve.proofs.RowLaws.{ticks-at, ticks-past, same-ticks}
 use Rattle.board.specs.declared.Link.{Link}
 use Rattle.board.specs.declared.Board.{Board}
-use Rattle.board.specs.Board.{noLink, linkAt, delayOf, view, WellFormed}
+use Rattle.board.specs.Board.{noLink, linkAt, delayOf, view, usable, WellFormed}
 use Rattle.board.proofs.Lawful.{lawful}
+use Rattle.board.proofs.UsableLaws.{usable-to}
 use Rattle.times.specs.declared.Schedule.{Schedule}
 use Rattle.times.specs.Times.{graphOf, TimesOf, Loopless, LooplessBy}
 use Rattle.late.specs.Late.{turnedLink, Turned, leftOf, LatestEndsOf}
@@ -54,45 +55,46 @@ module _ (b : Board) (ok : Loopless b) (back : List Link) (t : Turned (b .link) 
   unfolding graphOf view
   back-timed delay s e timed = record { starts = λ p h. timed .starts p h ∙ arrive-back e p; ends = timed .ends }
 
-  pub late-is : (delay : List Ticks) (s : Schedule) → TimesOf (graphOf back (b .links) (b .parts)) delay s → (due : ℕ) → due ≤ 4294967295 →
-      (r : List Ticks) → r ≡ leftOf due (s .start) (b .parts) → LatestEndsOf b due delay r
+  pub late-is : (delay : List Ticks) (s : Schedule) → TimesOf (graphOf back (b .links) (b .parts)) delay s → (due : ℕ) → due ≡ usable b →
+      (r : List Ticks) → r ≡ leftOf due (s .start) (b .parts) → LatestEndsOf b delay r
   unfolding leftOf graphOf view
-  late-is delay s by due most r is =
+  late-is delay s by due isd r is =
       let o = lawful b (ok .formed) in
+      let few : due ≤ 4095 = omega (arith, isd, usable-to b (ok .formed)) in
       let timed = back-timed (ticksAt delay) (by .start) (by .end) (by .timed) in
       let left : (p : ℕ) → p < b .parts → due - by .start p ≡ ticksAt (leftOf due (s .start) (b .parts)) p =
       λ p h. omega (arith, ticks-at (b .parts) (λ q. due - ticksAt (s .start) q) (ok .formed .parts-to) p h, by .starts p h) in
       rw is
       (record {
-        latest = latest-ends-alike (view b) o left (turned-latest-ends (view b) o timed due);
+        latest = rw (← isd) (latest-ends-alike (view b) o left (turned-latest-ends (view b) o timed due));
         blank = ticks-past (b .parts) _;
         room = firsts-room noTicks _ (b .parts);
       })
 
 -- the return of `latest_ends`: the count that was cut is the board's own
 pub late-returns : (b : Board) (delay : List Ticks) (back : List Link) → Turned (b .link) back → (s : Schedule) →
-    (LooplessBy back (b .links) (b .parts) → TimesOf (graphOf back (b .links) (b .parts)) delay s) → (due : Ticks) → due .0 ≤ 4294967295 →
-    (n : ℕ) (r : List Ticks) → n ≡ min (b .parts) 64 → r ≡ leftOf (due .0) (s .start) n → Loopless b → LatestEndsOf b (due .0) delay r
-late-returns b delay back t s by due most n r cut is ok =
+    (LooplessBy back (b .links) (b .parts) → TimesOf (graphOf back (b .links) (b .parts)) delay s) → (due : Ticks) → due .0 ≡ usable b →
+    (n : ℕ) (r : List Ticks) → n ≡ min (b .parts) 64 → r ≡ leftOf (due .0) (s .start) n → Loopless b → LatestEndsOf b delay r
+late-returns b delay back t s by due isd n r cut is ok =
     let all : n ≡ b .parts = omega (arith, ok .formed .parts-to) in
-    late-is b ok back t delay s (by (back-loopless b ok back t)) (due .0) most r (rw all at is)
+    late-is b ok back t delay s (by (back-loopless b ok back t)) (due .0) isd r (rw all at is)
 
 -- ---- one value
-pub late-once : (b : Board) → Loopless b → (delay : List Ticks) (due : ℕ) (r r′ : List Ticks) → LatestEndsOf b due delay r → LatestEndsOf b due delay r′ → r ≡ r′
+pub late-once : (b : Board) → Loopless b → (delay r r′ : List Ticks) → LatestEndsOf b delay r → LatestEndsOf b delay r′ → r ≡ r′
 unfolding view
-late-once b ok delay due r r′ a a′ =
+late-once b ok delay r r′ a a′ =
     same-ticks (b .parts) r r′ (a .room) (a′ .room)
-    (latest-ends-once (view b) (lawful b (ok .formed)) (ok .ranked) due (ticksAt delay) (a .latest) (a′ .latest)) (a .blank) (a′ .blank)
+    (latest-ends-once (view b) (lawful b (ok .formed)) (ok .ranked) (usable b) (ticksAt delay) (a .latest) (a′ .latest)) (a .blank) (a′ .blank)
 
 -- ---- no end is later, where the delays keep the deadline
-pub late-after : (b : Board) → WellFormed b → (delay late : List Ticks) (due : ℕ) → LatestEndsOf b due delay late → (s e : ℕ → ℕ) →
-    Timed (view b) (ticksAt delay) s e → ((p : ℕ) → p < b .parts → e p ≤ due) → ((p : ℕ) → p < b .parts → view b .fastest p ≤ ticksAt delay p) →
+pub late-after : (b : Board) → WellFormed b → (delay late : List Ticks) → LatestEndsOf b delay late → (s e : ℕ → ℕ) →
+    Timed (view b) (ticksAt delay) s e → ((p : ℕ) → p < b .parts → e p ≤ usable b) → ((p : ℕ) → p < b .parts → view b .fastest p ≤ ticksAt delay p) →
     (p : ℕ) → p < b .parts → e p ≤ ticksAt late p
 unfolding view
-late-after b ok delay late due a s e t ends from =
+late-after b ok delay late a s e t ends from =
     let o = lawful b ok in
     let τ : Times = record { start = s; end = e; used = λ p. ticksAt delay p - view b .fastest p } in
-    let f : Feasible (view b) due τ =
+    let f : Feasible (view b) (usable b) τ =
     record {
       spans = λ p h. omega (arith, t .ends p h, from p h);
       waits = λ l h. omega (arith, arrive-ge (view b) e l h, t .starts (linkAt b l .to) (ok .to-in l h));

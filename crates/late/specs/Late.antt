@@ -10,11 +10,11 @@ use Rattle.curve.specs.declared.Ticks.{Ticks}
 use Rattle.curve.specs.Rows.{ticksAt, ticksRow}
 use Rattle.board.specs.declared.Link.{Link}
 use Rattle.board.specs.declared.Board.{Board}
-use Rattle.board.specs.Board.{noLink, view}
+use Rattle.board.specs.Board.{noLink, view, usable}
 
--- the latest ends that these delays leave by the usable deadline `due`. Places without a part hold 0.
-pub record LatestEndsOf (b : Board) (due : ℕ) (delay late : List Ticks) : Type 0 where
-  pub latest : LatestEnds (view b) due (ticksAt delay) (ticksAt late)
+-- the latest ends that these delays leave by the usable deadline. Places without a part hold 0.
+pub record LatestEndsOf (b : Board) (delay late : List Ticks) : Type 0 where
+  pub latest : LatestEnds (view b) (usable b) (ticksAt delay) (ticksAt late)
   pub blank : (p : ℕ) → b .parts ≤ p → ticksAt late p ≡ 0
   pub room : length late ≡ 64
 

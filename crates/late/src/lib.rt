@@ -49,13 +49,14 @@ fn left(due: Ticks, s: [Ticks; 64], n: usize) -> [Ticks; 64]
     e
 }
 
-// Each part's latest end by the usable deadline `due`; places without a part hold 0.
-pub fn latest_ends(b: Board, delay: [Ticks; 64], due: Ticks) -> [Ticks; 64]
-    ensures { λ r. ⌜ (Loopless b → LatestEndsOf b (due .0) delay r) ⌝ }
+// The latest end that these delays leave each part by the usable deadline; places without a part hold 0.
+pub fn latest_ends(b: Board, delay: [Ticks; 64]) -> [Ticks; 64]
+    ensures { λ r. ⌜ (Loopless b → LatestEndsOf b delay r) ⌝ }
 {
     let link = b.link;
     let back = turned(link);
     let s = times::times_by(back, b.links, b.parts, delay);
     let start = s.start;
+    let due = board::usable_deadline(b);
     left(due, start, lesser(b.parts, 64))
 }

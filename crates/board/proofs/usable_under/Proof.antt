@@ -1,9 +1,9 @@
+-- `board::usable_under` meets its contract.
+-- Assumes nothing.
 use Rattle.board.proofs.Steps.{rule-a, rule-b}
 use borrow.Author.Needs.{needs}
 use Rattle.board.proofs.usable_under.Statement.{statement}
 use Rattle.board.proofs.usable_under.Tie as tie
-use Rattle.board.proofs.usable_under.Reads as reads
-use Rattle.board.proofs.usable_under.Lts as lts
 
 enum-told : tie.Need-enum-told
 enum-told c = search needs

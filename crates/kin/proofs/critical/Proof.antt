@@ -1,10 +1,9 @@
+-- `kin::critical` meets its contract.
+-- Assumes nothing.
 use Rattle.kin.proofs.Ways.{from-past, to-past, too-early, compared}
 use borrow.Author.Needs.{needs}
 use Rattle.kin.proofs.critical.Statement.{statement}
 use Rattle.kin.proofs.critical.Tie as tie
-use Rattle.kin.proofs.critical.Reads as reads
-use Rattle.kin.proofs.critical.Lts as lts
-use Rattle.board.proofs.link_delay.Reads as link-delay-reads
 
 returns : tie.Need-returns
 returns c = search (from-past)

@@ -1,3 +1,5 @@
+-- `kin::critical_rows` meets its contract.
+-- Assumes nothing.
 use mathlib.Core.Path.{_≡_}
 use Prim.Native.Nat.{_-_, _≤_}
 use Rattle.kin.specs.Steps.{rowsUpTo}
@@ -6,12 +8,6 @@ use Rattle.kin.proofs.RowLaws.{rows-done}
 use borrow.Author.Needs.{needs}
 use Rattle.kin.proofs.critical_rows.Statement.{statement}
 use Rattle.kin.proofs.critical_rows.Tie as tie
-use Rattle.kin.proofs.critical_rows.Reads as reads
-use Rattle.kin.proofs.critical_rows.Lts as lts
-use Rattle.base.proofs.lesser.Reads as lesser-reads
-use Rattle.kin.proofs.critical.Reads as critical-reads
-use Rattle.kin.proofs.no_rows.Reads as no-rows-reads
-use Rattle.kin.proofs.with_link.Reads as with-link-reads
 
 abbrev Inv-loop : tie.InvT-loop
 Inv-loop held b n t₀ k₀ t k = (k ≤ n) × (t ≡ rowsUpTo b held k)

@@ -1,11 +1,9 @@
+-- `kin::link_is_critical` meets its contract.
+-- Assumes nothing.
 use Rattle.kin.proofs.Ways.{no-such-link, such-link}
 use borrow.Author.Needs.{needs}
 use Rattle.kin.proofs.link_is_critical.Statement.{statement}
 use Rattle.kin.proofs.link_is_critical.Tie as tie
-use Rattle.kin.proofs.link_is_critical.Reads as reads
-use Rattle.kin.proofs.link_is_critical.Lts as lts
-use Rattle.base.proofs.lesser.Reads as lesser-reads
-use Rattle.kin.proofs.critical.Reads as critical-reads
 
 lesser-requires : tie.Need-lesser-requires
 lesser-requires c κs = search needs

@@ -1,0 +1,25 @@
+-- `late::latest_ends` meets its contract.
+-- Assumes nothing.
+use Rattle.late.proofs.LateLaws.{late-returns}
+use borrow.Author.Needs.{needs}
+use Rattle.late.proofs.latest_ends.Statement.{statement}
+use Rattle.late.proofs.latest_ends.Tie as tie
+
+turned-requires : tie.Need-turned-requires
+turned-requires c κs = search needs
+
+times-by-requires : tie.Need-times-by-requires
+times-by-requires c κs = search needs
+
+lesser-requires : tie.Need-lesser-requires
+lesser-requires c κs = search needs
+
+left-requires : tie.Need-left-requires
+left-requires c κs = search needs
+
+returns : tie.Need-returns
+returns c = search (late-returns, needs)
+
+pub latest-ends-spec : {M : Type 1} → statement M
+latest-ends-spec =
+    tie.close (tie.spec turned-requires times-by-requires lesser-requires left-requires returns)
