@@ -10,6 +10,7 @@
 //!   sessions: a board, orders of every kind, further loads, foreign tallies;
 //!   steps: sessions with what is held after every call;
 //!   questions: every question, about every kind of number;
+//!   worth: boards at every deadline, tick by tick;
 //!   advised: design files with advice, as a bundle (`bundle.rs`), not a script.
 //! `trials tour OUT`: writes the stored script of the program `calls`.
 //! `trials list SCRIPT`: the calls of a script, one on a line, counted from 1.
@@ -111,8 +112,9 @@ fn made(kind: &str, count: usize, rng: &mut Rng) -> Result<Vec<u8>, String> {
         "sessions" => make::sessions(count, rng),
         "steps" => make::steps(count, rng),
         "questions" => make::questions(count, rng),
+        "worth" => make::worth(count, rng),
         "advised" => return Ok(bundle::pack(&make::advised(count, rng))),
-        _ => return Err("a kind is loads, designs, sessions, steps, questions or advised".to_string()),
+        _ => return Err("a kind is loads, designs, sessions, steps, questions, worth or advised".to_string()),
     };
     Ok(calls::script(&script))
 }

@@ -8,6 +8,7 @@ pub mod orders;
 pub mod questions;
 pub mod sessions;
 pub mod tour;
+pub mod worth;
 
 use crate::calls::Call;
 use crate::file::{write_design, write_order};
@@ -16,6 +17,7 @@ use crate::rng::Rng;
 pub use questions::questions;
 pub use sessions::{sessions, steps};
 pub use tour::tour;
+pub use worth::worth;
 
 /// A small file at every edge of its fields, then good design files, each
 /// followed by damaged ones made from it: a short file in every way of

@@ -6,6 +6,7 @@ use common::*;
 use trials::board::Board;
 use trials::climb::climb;
 use trials::make::boards::{self, board_in_time, tiny_board};
+use trials::make::worth::{deadlines, short_board};
 use trials::rng::Rng;
 use trials::solve::{cheapest, choices, earliest, every_cheapest, loads};
 
@@ -173,4 +174,26 @@ fn the_flow_proves_the_budget() {
             assert!(sheet[parts + k] == 0 || budget.ends[from] == budget.starts[to]);
         }
     }
+}
+
+/// Req 13: the least total never rises as the usable deadline grows, and each
+/// further tick saves no more than the tick before it did.
+#[test]
+fn each_further_tick_saves_no_more() {
+    let rng = &mut Rng::new(13);
+    let mut bends = 0;
+    for _ in 0..400 {
+        let mut board = short_board(rng);
+        let mut totals = Vec::new();
+        for ticks in deadlines(&board) {
+            board.deadline = ticks;
+            totals.push(board.total(&cheapest(&board).delays).expect("a budget is on the curves"));
+        }
+        let savings: Vec<u32> =
+            totals.windows(2).map(|two| two[0].checked_sub(two[1]).expect("the total never rises")).collect();
+        assert!(savings.is_sorted_by(|tick, next| tick >= next), "{savings:?} of {board:?}");
+        assert_eq!(savings.last(), Some(&0), "past the slowest a tick saves nothing");
+        bends += savings.windows(2).filter(|two| two[0] > two[1]).count();
+    }
+    assert!(bends > 800, "the saving falls {bends} times");
 }

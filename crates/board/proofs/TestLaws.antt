@@ -1,7 +1,7 @@
 -- The tests of a board's curves say what `WellFormed` asks of them, and all tests together decide `WellFormed`.
 -- Assumes nothing.
 use mathlib.Core.Path.{_≡_, refl, sym, ap, _∙_}
-use mathlib.Core.Logic.{⊎-elim}
+use mathlib.Core.Logic.{_⊎_, inl, inr, ⊎-elim}
 use mathlib.Core.Bool.{Bool, true, false, not}
 use mathlib.Core.List.{List}
 use Prim.Native.Nat.{ℕ, _≤_, _<_}
@@ -9,7 +9,7 @@ use native.Mathlib.Omega.{arith}
 use lib.ListN.{length}
 use borrow.Author.Tests.{lt-ltb, le-ltb, ltb-false, not-true, not-false}
 use Rattle.base.specs.Pick.{pick}
-use Rattle.base.proofs.Cases.{lt-or-le}
+use Rattle.base.proofs.Cases.{lt-or-le, eq-or-ne}
 use Rattle.curve.specs.declared.Run.{Run}
 use Rattle.curve.specs.declared.Curve.{Curve}
 use Rattle.curve.specs.Curve.{Good}
@@ -137,3 +137,31 @@ module _ (b : Board) where
             };
         no = λ w. ir ∙ links-pass b w;
       }
+
+-- ---- so every value is well formed or not
+module _ (b : Board) where
+  by-tests : length (b .curve) ≡ 64 → length (b .link) ≡ 256 → 1 ≤ b .deadline .0 → b .deadline .0 ≤ 4095 → 1 ≤ b .parts → b .parts ≤ 64 → b .links ≤ 256 →
+      (s r : Bool) → s ≡ curvesTest b → r ≡ linksTest b → WellFormed b ⊎ (WellFormed b → ⊥)
+  by-tests long wide d₁ d₂ p₁ p₂ few false r is ir = inr (λ w. clash (is ∙ curves-pass b w))
+  by-tests long wide d₁ d₂ p₁ p₂ few true false is ir = inr (λ w. clash (ir ∙ links-pass b w))
+  by-tests long wide d₁ d₂ p₁ p₂ few true true is ir = inl (links-decide b true true long wide d₁ d₂ p₁ p₂ few is refl ir .yes refl)
+
+  pub formed-or-not : WellFormed b ⊎ (WellFormed b → ⊥)
+  formed-or-not =
+      ⊎-elim
+      (λ (long : length (b .curve) ≡ 64).
+      ⊎-elim
+      (λ (wide : length (b .link) ≡ 256).
+      ⊎-elim (λ (h : b .deadline .0 < 1). inr (λ w. omega (arith, w .deadline-from)))
+      (λ (d₁ : 1 ≤ b .deadline .0).
+      ⊎-elim (λ (h : 4095 < b .deadline .0). inr (λ w. omega (arith, w .deadline-to)))
+      (λ (d₂ : b .deadline .0 ≤ 4095).
+      ⊎-elim (λ (h : b .parts < 1). inr (λ w. omega (arith, w .parts-from)))
+      (λ (p₁ : 1 ≤ b .parts).
+      ⊎-elim (λ (h : 64 < b .parts). inr (λ w. omega (arith, w .parts-to)))
+      (λ (p₂ : b .parts ≤ 64).
+      ⊎-elim (λ (h : 256 < b .links). inr (λ w. omega (arith, w .links-to)))
+      (λ (few : b .links ≤ 256). by-tests long wide d₁ d₂ p₁ p₂ few (curvesTest b) (linksTest b) refl refl) (lt-or-le 256 (b .links)))
+      (lt-or-le 64 (b .parts))) (lt-or-le (b .parts) 1)) (lt-or-le 4095 (b .deadline .0))) (lt-or-le (b .deadline .0) 1))
+      (λ (ne : length (b .link) ≡ 256 → ⊥). inr (λ w. ne (w .link-room))) (eq-or-ne (length (b .link)) 256))
+      (λ (ne : length (b .curve) ≡ 64 → ⊥). inr (λ w. ne (w .curve-room))) (eq-or-ne (length (b .curve)) 64)

@@ -55,10 +55,10 @@ pub fn plain_link(from: usize, to: usize) -> Link
 }
 
 // The ticks that a link takes.
-pub fn link_delay(l: Link) -> u32
-    ensures { λ r. ⌜ r ≡ delayOf l ⌝ }
+pub fn link_delay(l: Link) -> Ticks
+    ensures { λ r. ⌜ r .0 ≡ delayOf l ⌝ }
 {
-    l.delay.0
+    l.delay
 }
 
 // All places without a link.
@@ -106,21 +106,21 @@ pub fn rule_of(number: u32) -> Rule
 }
 
 // The ticks of a deadline that a path may take.
-fn usable_under(rule: Rule, deadline: u32) -> u32
-    ensures { λ r. ⌜ r ≡ usableUnder rule deadline ⌝ }
+fn usable_under(rule: Rule, deadline: Ticks) -> Ticks
+    ensures { λ r. ⌜ r .0 ≡ usableUnder rule (deadline .0) ⌝ }
 {
     match rule {
         Rule::A => deadline,
-        Rule::B => deadline - deadline / 64,
+        Rule::B => Ticks(deadline.0 - deadline.0 / 64),
     }
 }
 
 // The usable deadline: the ticks that a path may take.
-pub fn usable_deadline(b: Board) -> u32
-    ensures { λ r. ⌜ r ≡ usable b ⌝ }
+pub fn usable_deadline(b: Board) -> Ticks
+    ensures { λ r. ⌜ r .0 ≡ usable b ⌝ }
 {
     let rule = b.rule;
-    usable_under(rule, b.deadline.0)
+    usable_under(rule, b.deadline)
 }
 
 // 1 where link a stands before link x in the order of from, then to; else 0.

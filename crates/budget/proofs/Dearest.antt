@@ -5,7 +5,6 @@ use mathlib.Core.List.{List}
 use Prim.Native.Nat.{ℕ, _≤_, _<_}
 use native.Mathlib.Omega.{arith}
 use lib.ListN.{length, getD, replicate, length-replicate, getD-replicate}
-use Rattle.theory.specs.Sum.{cells}
 use Rattle.theory.specs.Budget.{greatest, arrive, Timed}
 use Rattle.theory.proofs.SumLaws.{sum-ext, sum-const}
 use Rattle.curve.specs.declared.Ticks.{Ticks}
@@ -13,6 +12,7 @@ use Rattle.curve.specs.declared.Microwatts.{Microwatts}
 use Rattle.curve.specs.declared.Curve.{Curve}
 use Rattle.curve.specs.Curve.{powerMax, slowestOf, powerOf, Good}
 use Rattle.curve.specs.Answers.{flatOf}
+use Rattle.curve.specs.Rows.{ticksAt, powerAt}
 use Rattle.curve.proofs.CurveLaws.{flat-good, flat-slowest, flat-power}
 use Rattle.board.specs.declared.Rule.the-variants.{A}
 use Rattle.board.specs.declared.Link.{Link}
@@ -66,25 +66,25 @@ module _ (cs : List Curve) (ls : List Link) (long : length cs ≡ 64) (is : (p :
 
   -- at its one delay a part draws all its power
   module _ (r : Budget) (h : Holds dear r) where
-    power-most : (p : ℕ) → p < 64 → cells (r .power) p ≡ powerMax
+    power-most : (p : ℕ) → p < 64 → powerAt (r .power) p ≡ powerMax
     unfolding flatOf
     power-most p l =
-        let from : 1 ≤ cells (r .delay) p = rw (is p l) at (h .allowed .fastest p l) in
-        let to : cells (r .delay) p ≤ slowestOf (flatOf one most) = rw (is p l) at (h .allowed .slowest p l) in
-        let delay : cells (r .delay) p ≡ 1 = omega (arith, flat-slowest one most) in
+        let from : 1 ≤ ticksAt (r .delay) p = rw (is p l) at (h .allowed .fastest p l) in
+        let to : ticksAt (r .delay) p ≤ slowestOf (flatOf one most) = rw (is p l) at (h .allowed .slowest p l) in
+        let delay : ticksAt (r .delay) p ≡ 1 = omega (arith, flat-slowest one most) in
         h .allowed .powers p l ∙ rw (is p l, delay) (flat-power one most)
 
-    draws-most : r .total ≡ totalMax
+    draws-most : r .total .0 ≡ totalMax
     draws-most = h .allowed .total ∙ sum-ext 64 power-most ∙ sum-const 64 powerMax
 
-  dear-held : (b : Board) × WellFormed b × (r : Budget) × Holds b r × (r .total ≡ totalMax)
+  dear-held : (b : Board) × WellFormed b × (r : Budget) × Holds b r × (r .total .0 ≡ totalMax)
   unfolding usable usableUnder view
   dear-held =
       let held = holds-exactly-one dear dear-formed {T = usable dear} dear-timed (λ p h. omega (arith, fastest-one p h)) in
       (dear, dear-formed, held .0, held .1, draws-most (held .0) (held .1))
 
 -- "the greatest total 1,280,000,000": some board holds a budget that draws it
-pub total-reached : (b : Board) × WellFormed b × (r : Budget) × Holds b r × (r .total ≡ totalMax)
+pub total-reached : (b : Board) × WellFormed b × (r : Budget) × Holds b r × (r .total .0 ≡ totalMax)
 total-reached =
     dear-held (replicate 64 (flatOf one most)) (replicate 256 noLink) (length-replicate 64 (flatOf one most)) (λ p h. getD-replicate 64 p (flatOf one most) noCurve h)
     (length-replicate 256 noLink) (λ l h. getD-replicate 256 l noLink noLink h)

@@ -16,7 +16,7 @@ use Rattle.budget.specs.Reason.{Reason}
 use Rattle.budget.proofs.BudgetLaws.{allowed-budget, allowed-total}
 
 pub reason-cheapest : (b : Board) → WellFormed b → (r : Budget) → Allowed b r → (flow : List ℕ) → Reason b r flow → (r′ : Budget) → Allowed b r′ →
-    r .total ≤ r′ .total
+    r .total .0 ≤ r′ .total .0
 reason-cheapest b ok r a flow why r′ a′ =
     let o = lawful b ok in
     let f = budget-feasible (view b) o (allowed-budget b ok r a) in

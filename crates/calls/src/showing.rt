@@ -24,7 +24,7 @@ fn put_held(page: &mut [u8; PAGE], at: usize, d: Desk) -> usize {
     let filed = writing::put_file(page, named, d);
     let ended = console::end_line(page, filed);
     let parts = put_parts(page, ended, d, whole.parts);
-    let total = console::number(page, parts, b"total ", whole.total);
+    let total = console::number(page, parts, b"total ", whole.total.0);
     let summed = console::end_line(page, total);
     let links = put_links(page, summed, d, whole.links);
     put_sets(page, links, d, whole.parts)
@@ -51,10 +51,10 @@ fn put_part(page: &mut [u8; PAGE], at: usize, d: Desk, p: usize) -> usize {
     let asked = questions::part(d, p);
     let row = Row {
         part: p,
-        start: asked.start.0,
-        delay: asked.delay.0,
-        end: asked.end.0,
-        power: asked.power.0,
+        start: asked.start,
+        delay: asked.delay,
+        end: asked.end,
+        power: asked.power,
     };
     report::put_row(page, at, row)
 }

@@ -10,6 +10,7 @@ use native.Mathlib.Omega.{arith}
 use lib.Dec.{leb, eqb}
 use borrow.Author.Tests.{leb-true, le-leb, eqb-true, eq-eqb}
 use Rattle.base.specs.Pick.{pick}
+use Rattle.base.specs.Table.{table}
 use Rattle.base.proofs.Cases.{lt-or-le}
 use Rattle.theory.specs.Sum.{sum, cells}
 use Rattle.theory.specs.Saving.{saves}
@@ -20,7 +21,6 @@ use Rattle.theory.proofs.TimedLaws.{timed-once, delays-budget, budget-feasible}
 use Rattle.theory.proofs.Rounds.{feasible-ranked}
 use Rattle.curve.specs.Tests.{both, every}
 use Rattle.curve.proofs.GoodLaws.{every-at, every-all}
-use Rattle.times.specs.Times.{table}
 
 both-parts : (a b : Bool) → both a b ≡ true → (a ≡ true) × (b ≡ true)
 unfolding pick

@@ -5,6 +5,7 @@ use mathlib.Core.List.{[], _∷_}
 use Prim.Native.Nat.{ℕ}
 use lib.ListN.{length}
 use Rattle.base.specs.Pick.{pick}
+use Rattle.base.specs.Table.{table}
 use Rattle.refusal.specs.declared.Answer.the-variants.{Done}
 use Rattle.theory.specs.Sum.{sum, share}
 use Rattle.theory.specs.Saving.{tick}
@@ -16,7 +17,6 @@ use Rattle.board.specs.declared.Rule.the-variants.{A}
 use Rattle.board.specs.declared.Board.{Board}
 use Rattle.board.specs.Board.{usable, view, blankCurve, usableUnder, delayOf}
 use Rattle.board.specs.Tests.{blankCurves, blankLinks, belowOf}
-use Rattle.times.specs.Times.{table}
 use Rattle.edits.specs.Edits.{countBefore, placeOf, some, sameEnds, hasLinkOf, filled, insertedAt, insertedOf, removedAt, removedOf, addable, withDeadlineOf, withLinkOf, withoutLinkOf}
 use Rattle.fields.specs.Parse.{got, and-then, repeat, rangedAt, fieldAt}
 use Rattle.fields.specs.Writing.{inRow}

@@ -9,7 +9,8 @@ use lib.Dec.{ltb, leb}
 use lib.ListN.{length}
 use borrow.Author.Tests.{lt-ltb, leb-true, ltb-true}
 use Rattle.base.specs.Pick.{pick}
-use Rattle.theory.specs.Sum.{cells}
+use Rattle.curve.specs.declared.Ticks.{Ticks}
+use Rattle.curve.specs.Rows.{ticksAt}
 use Rattle.refusal.specs.declared.Answer.{Answer}
 use Rattle.refusal.specs.declared.Answer.the-variants.{Done}
 use Rattle.curve.specs.Answers.{powerAtOf}
@@ -48,29 +49,29 @@ worked b delays = valueOf b (timesBy (view b) delays)
 
 -- ---- a budget that shows these numbers
 pub shows-is :
-    {r : Budget} {delays ends : List ℕ} {total : ℕ} → r .delay ≡ padded delays → r .end ≡ padded ends → r .total ≡ total →
+    {r : Budget} {delays ends : List ℕ} {total : ℕ} → r .delay ≡ padded delays → r .end ≡ padded ends → r .total .0 ≡ total →
     Shows r delays ends total
 shows-is delays ends total = record { delays-are = delays; ends-are = ends; total-is = total }
 
 -- ---- another budget, by its own test and by comparison place by place
 module _ (b : Board) (delays : List ℕ) (k : Known b delays) (others : List ℕ) where
-  abbrev held-ends : List ℕ
+  abbrev held-ends : List Ticks
   held-ends = worked b delays .end
 
-  abbrev other-ends : List ℕ
+  abbrev other-ends : List Ticks
   other-ends = worked b others .end
 
   pub another-is :
       fits (view b) (usable b) others (endsOf (view b) others) ≡ true → (ends : List ℕ) (total : ℕ) → Shows (worked b others) others ends total →
-      worked b others .total ≡ worked b delays .total → every 64 (λ p. leb (cells held-ends p) (cells other-ends p)) ≡ true → (part : ℕ) →
-      ltb (cells held-ends part) (cells other-ends part) ≡ true → Another b (worked b delays) others ends total
+      worked b others .total .0 ≡ worked b delays .total .0 → every 64 (λ p. leb (ticksAt held-ends p) (ticksAt other-ends p)) ≡ true → (part : ℕ) →
+      ltb (ticksAt held-ends part) (ticksAt other-ends part) ≡ true → Another b (worked b delays) others ends total
   another-is fit ends total shows same none-earlier part later = record {
     other = worked b others;
     allowed = value-allowed b (known-formed b delays k) (timesBy (view b) others) (fits-budget (view b) (usable b) others fit);
     shows = shows;
     same = same;
     arrives = record {
-      none-earlier = λ p h. leb-true _ _ (every-at (λ p. leb (cells held-ends p) (cells other-ends p)) 64 none-earlier p h);
+      none-earlier = λ p h. leb-true _ _ (every-at (λ p. leb (ticksAt held-ends p) (ticksAt other-ends p)) 64 none-earlier p h);
       part = part;
       later = ltb-true _ _ later;
     };
@@ -126,7 +127,7 @@ module _ {b : Board} {n : Tally} {d : Desk} {t : Tally} (at : At b n d t) where
     unfolding UpstreamSaid
     upstream-step {set} {count} is many =
         let found = ap (λ (x : Board). upstreamOf x part) (at .board) ∙ is in
-        let given = cone-given (Upstream (d .board) part) (upstream-is (d .board) (at .holding .kept .formed) part there) found many in
+        let given = cone-given (Upstream (d .board) part) (upstream-is (d .board) (at .holding .kept .formed) part) found many in
         let so = said coneRefused (ConeGiven (Upstream (d .board) part)) (coneIs set count) given in
         record { result = coneIs set count; said = so; only = λ r s. upstream-once d stands part r (coneIs set count) s so }
 
@@ -134,17 +135,17 @@ module _ {b : Board} {n : Tally} {d : Desk} {t : Tally} (at : At b n d t) where
     unfolding DownstreamSaid
     downstream-step {set} {count} is many =
         let found = ap (λ (x : Board). downstreamOf x part) (at .board) ∙ is in
-        let given = cone-given (Downstream (d .board) part) (downstream-is (d .board) (at .holding .kept .formed) part there) found many in
+        let given = cone-given (Downstream (d .board) part) (downstream-is (d .board) (at .holding .kept .formed) part) found many in
         let so = said coneRefused (ConeGiven (Downstream (d .board) part)) (coneIs set count) given in
         record { result = coneIs set count; said = so; only = λ r s. downstream-once d stands part r (coneIs set count) s so }
 
     pub kin-step :
         {delays : List ℕ} → Known b delays → {parents children : ℕ} →
-        KinOf (Critical b (worked b delays .start) (worked b delays .end)) part (record { parents = parents; children = children }) →
+        KinOf (Critical b (worked b delays)) part (record { parents = parents; children = children }) →
         Answers (FamilySaid d part) (familyIs parents children)
     unfolding FamilySaid
     kin-step k {parents} {children} is =
-        let sets = held-step k (λ x r. KinOf (Critical x (r .start) (r .end)) part (record { parents = parents; children = children })) is in
+        let sets = held-step k (λ x r. KinOf (Critical x r) part (record { parents = parents; children = children })) is in
         let given : FamilyGiven d part (familyIs parents children) = record { done = refl; sets = sets; parent-count = refl; child-count = refl } in
         let so = said familyRefused (FamilyGiven d part) (familyIs parents children) given in
         record { result = familyIs parents children; said = so; only = λ r s. families-once d stands part r (familyIs parents children) s so }

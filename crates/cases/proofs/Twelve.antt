@@ -8,6 +8,7 @@ use Prim.Native.Nat.{ℕ, _+_, _<_}
 use lib.Count.{ones, onesIn}
 use lib.Dec.{lit<}
 use Rattle.base.specs.Pick.{pick}
+use Rattle.base.specs.Table.{table, firsts}
 use Rattle.theory.specs.Sum.{sum, share}
 use Rattle.theory.specs.Saving.{tick}
 use Rattle.theory.specs.Budget.{greatest, arrive}
@@ -25,9 +26,8 @@ use Rattle.cone.proofs.Loops.{ranked-loop-free}
 use Rattle.kin.specs.Critical.{Critical}
 use Rattle.kin.specs.Kin.{KinOf}
 use Rattle.kin.proofs.Examples.{kin-is}
-use Rattle.times.specs.Times.{table, firsts}
 use Rattle.slow.proofs.ShownCases.{boardK, board1, slow-K, slow-1}
-use Rattle.budget.specs.Made.{delaysOf, powersOf, totalOf, budgetOf, valueOf}
+use Rattle.budget.specs.Made.{drawnOf, delaysOf, powersOf, totalOf, budgetOf, valueOf}
 use Rattle.fields.specs.Writing.{inRow}
 use Rattle.fields.specs.CurveFile.{runsBytes, curveBytes}
 use Rattle.design.specs.Design.{partsBytes, linksBytes, linkedBytes, bodyBytes, headBytes, fileOf}
@@ -95,10 +95,10 @@ module _ {n : Tally} {d : Desk} {t : Tally} (room : n .taken + n .refused < 6553
 
 -- ---- case (12)
 kin-of-K :
-    KinOf (Critical K (worked K (4 ∷ 3 ∷ 3 ∷ 6 ∷ []) .start) (worked K (4 ∷ 3 ∷ 3 ∷ 6 ∷ []) .end)) 0 (record { parents = 1; children = 10 })
+    KinOf (Critical K (worked K (4 ∷ 3 ∷ 3 ∷ 6 ∷ []))) 0 (record { parents = 1; children = 10 })
 unfolding valueOf budgetOf firsts timesBy endsOf endsBy table arrive greatest share view delayOf pick K board curve
 kin-of-K =
-    kin-is K refl refl refl refl (worked K (4 ∷ 3 ∷ 3 ∷ 6 ∷ []) .start) (worked K (4 ∷ 3 ∷ 3 ∷ 6 ∷ []) .end) refl refl refl refl refl
+    kin-is K refl refl refl refl (worked K (4 ∷ 3 ∷ 3 ∷ 6 ∷ [])) refl refl refl refl refl
 
 upstream-of-K : upstreamOf K 2 ≡ 7
 unfolding K board
@@ -122,7 +122,7 @@ held-row b delays k is d t =
 
 -- "Proved together". Each `refl` is computed, and no answer of the table stands here a second time.
 pub all-promised : All Promised twelve
-unfolding All twelve Promised StepsPromised padded valueOf budgetOf delaysOf powersOf totalOf firsts timesBy fits settled inTime onCurves endsOf
+unfolding All twelve Promised StepsPromised padded valueOf budgetOf drawnOf delaysOf powersOf totalOf firsts timesBy fits settled inTime onCurves endsOf
     endsBy table every arrive greatest share sum tick view delayOf usable usableUnder powerAtOf powerOf slowestOf savingOf ticksOf lengthAt savingAt pick fileOf
     partsBytes linksBytes linkedBytes bodyBytes headBytes curveBytes runsBytes inRow encode encodeIn numberAt groupsFrom shortestEnd ones onesIn K fileK D fileD flat fileFlat
     long fileLong linkedK shorterK board curve

@@ -2,10 +2,10 @@
 -- questions allow from there on, the answers are those of the row.
 -- Assumes nothing.
 use mathlib.Core.Path.{_≡_}
-use mathlib.Core.List.{List, [], _∷_, _++_}
-use Prim.Native.Nat.{ℕ, _-_, _≤_, _<_}
+use mathlib.Core.List.{List, [], _∷_}
+use Prim.Native.Nat.{ℕ, _≤_, _<_}
 use lib.Count.{ones}
-use lib.ListN.{length, replicate}
+use lib.ListN.{length}
 use Rattle.theory.specs.Sum.{cells}
 use Rattle.refusal.specs.declared.Answer.the-variants as answer
 use Rattle.refusal.specs.Refusal.{by, refusal}
@@ -14,6 +14,8 @@ use Rattle.groups.specs.Number.{numberAt}
 use Rattle.board.specs.declared.Rule.the-variants.{A}
 use Rattle.board.specs.declared.Board.{Board}
 use Rattle.slow.specs.Walk.{trailOf}
+use Rattle.curve.specs.declared.Ticks.{Ticks}
+use Rattle.curve.specs.Rows.{ticksAt, ticksRow}
 use Rattle.budget.specs.declared.Budget.{Budget}
 use Rattle.budget.specs.Budget.{Allowed}
 use Rattle.fields.specs.Parse.{got}
@@ -33,9 +35,9 @@ use Rattle.questions.specs.Numbers.{PowerSaid}
 use Rattle.cases.specs.Rows.{Step, Case}
 use Rattle.cases.specs.Rows as row
 
--- the numbers of the parts, and 0 at the places past them
-unfoldable pub padded : List ℕ → List ℕ
-padded xs = xs ++ replicate (64 - length xs) 0
+-- the ticks of the parts, and 0 at the places past them
+unfoldable pub padded : List ℕ → List Ticks
+padded xs = ticksRow (length xs) (cells xs)
 
 -- what a call comes to: its contract allows a result, and every result that it allows is so
 pub record Comes {R : Type 0} (Said Is : R → Type 0) : Type 0 where
@@ -47,20 +49,20 @@ pub record Comes {R : Type 0} (Said Is : R → Type 0) : Type 0 where
 pub record Shows (r : Budget) (delays ends : List ℕ) (total : ℕ) : Type 0 where
   pub delays-are : r .delay ≡ padded delays
   pub ends-are : r .end ≡ padded ends
-  pub total-is : r .total ≡ total
+  pub total-is : r .total .0 ≡ total
 
 -- "arrive later": no end is earlier, and one is later
-pub record Later (e e′ : List ℕ) : Type 0 where
-  pub none-earlier : (p : ℕ) → p < 64 → cells e p ≤ cells e′ p
+pub record Later (e e′ : List Ticks) : Type 0 where
+  pub none-earlier : (p : ℕ) → p < 64 → ticksAt e p ≤ ticksAt e′ p
   pub part : ℕ
-  pub later : cells e part < cells e′ part
+  pub later : ticksAt e part < ticksAt e′ part
 
 -- "cost the same and arrive later"
 pub record Another (b : Board) (held : Budget) (delays ends : List ℕ) (total : ℕ) : Type 0 where
   pub other : Budget
   pub allowed : Allowed b other
   pub shows : Shows other delays ends total
-  pub same : other .total ≡ held .total
+  pub same : other .total .0 ≡ held .total .0
   pub arrives : Later (held .end) (other .end)
 
 -- ---- questions

@@ -7,7 +7,7 @@ use Prim.Native.Nat.{ℕ, _<_}
 use native.Mathlib.Omega.{arith}
 use Rattle.base.proofs.Cases.{eq-or-ne}
 use Rattle.marks.specs.Marks.{bit, oneOf}
-use Rattle.marks.proofs.Bits.{bit-one-same, bit-one-other, one-fits, exactly-once}
+use Rattle.marks.proofs.Bits.{mark-below, bit-one-same, bit-one-other, one-fits, exactly-once}
 use Rattle.board.specs.declared.Board.{Board}
 use Rattle.board.specs.Board.{Linked, WellFormed}
 use Rattle.board.specs.Leads.{Leads, one, more, Reach, here, by}
@@ -73,57 +73,59 @@ module _ (b : Board) (ok : WellFormed b) where
   reached-up {p} {q} (start h) = here (sym (one-is-it p q h))
   reached-up (step r h) = by (path-reach b (column-linked b ok _ _ h) (reached-up r))
 
-  module _ (p : ℕ) (part : p < b .parts) where
-    itself : (back : Bool) → Reached (rowsOf b back) (oneOf p) p
-    itself back = start (bit-one-same p (omega (arith, ok .parts-to)))
+  module _ (p : ℕ) where
+    itself : p < 64 → (back : Bool) → Reached (rowsOf b back) (oneOf p) p
+    itself h back = start (bit-one-same p h)
 
-    down-reached : (q : ℕ) → Reach b p q → Reached (rowsOf b false) (oneOf p) q
-    down-reached q (here e) = rw (← e) (itself false)
-    down-reached q (by t) = walk (itself false) t
+    down-reached : (q : ℕ) → q < 64 → Reach b p q → Reached (rowsOf b false) (oneOf p) q
+    down-reached q h (here e) = rw (← e) (itself (omega arith) false)
+    down-reached q h (by t) = walk (itself (omega (arith, path-from b ok t, ok .parts-to)) false) t
 
-    up-reached : (q : ℕ) → Reach b q p → Reached (rowsOf b true) (oneOf p) q
-    up-reached q (here e) = rw e (itself true)
-    up-reached q (by t) = walk-back (itself true) t
+    up-reached : (q : ℕ) → q < 64 → Reach b q p → Reached (rowsOf b true) (oneOf p) q
+    up-reached q h (here e) = rw e (itself (omega arith) true)
+    up-reached q h (by t) = walk-back (itself (omega (arith, path-to b ok t, ok .parts-to)) true) t
 
     -- ---- the computed sets are those that are meant
     pub downstream-is : Downstream b p (downstreamOf b p)
     unfolding downstreamOf coneOf
     downstream-is =
+        let fits = reached-fits (rowsOf b false) (oneOf p) (rows-fit b false) (one-fits p) in
         record {
-          fits = reached-fits (rowsOf b false) (oneOf p) (rows-fit b false) (one-fits p);
-          marked = λ q h. reached-down (reached-marked (rowsOf b false) (oneOf p) (rows-fit b false) (one-fits p) q h);
-          all = λ q r. reached-all (rowsOf b false) (oneOf p) (rows-fit b false) (one-fits p) q (down-reached q r);
+          fits = fits;
+          marked = λ q h. (mark-below _ q fits h, reached-down (reached-marked (rowsOf b false) (oneOf p) (rows-fit b false) (one-fits p) q h));
+          all = λ q r. reached-all (rowsOf b false) (oneOf p) (rows-fit b false) (one-fits p) q (down-reached q (r .0) (r .1));
         }
 
     pub upstream-is : Upstream b p (upstreamOf b p)
     unfolding upstreamOf coneOf
     upstream-is =
+        let fits = reached-fits (rowsOf b true) (oneOf p) (rows-fit b true) (one-fits p) in
         record {
-          fits = reached-fits (rowsOf b true) (oneOf p) (rows-fit b true) (one-fits p);
-          marked = λ q h. reached-up (reached-marked (rowsOf b true) (oneOf p) (rows-fit b true) (one-fits p) q h);
-          all = λ q r. reached-all (rowsOf b true) (oneOf p) (rows-fit b true) (one-fits p) q (up-reached q r);
+          fits = fits;
+          marked = λ q h. (mark-below _ q fits h, reached-up (reached-marked (rowsOf b true) (oneOf p) (rows-fit b true) (one-fits p) q h));
+          all = λ q r. reached-all (rowsOf b true) (oneOf p) (rows-fit b true) (one-fits p) q (up-reached q (r .0) (r .1));
         }
 
 -- ---- there is one such set, and the two kinds answer each other
 module _ (b : Board) (p : ℕ) where
   pub downstream-once : (s t : ℕ) → Downstream b p s → Downstream b p t → s ≡ t
-  downstream-once s t = exactly-once (λ q. Reach b p q) s t
+  downstream-once s t = exactly-once (λ q. (q < 64) × Reach b p q) s t
 
   pub upstream-once : (s t : ℕ) → Upstream b p s → Upstream b p t → s ≡ t
-  upstream-once s t = exactly-once (λ q. Reach b q p) s t
+  upstream-once s t = exactly-once (λ q. (q < 64) × Reach b q p) s t
 
   -- q is downstream of p exactly where p is upstream of q
-  pub down-up : (q d u : ℕ) → Downstream b p d → Upstream b q u → bit d q ≡ 1 → bit u p ≡ 1
-  down-up q d u down up h = up .all p (down .marked q h)
+  pub down-up : p < 64 → (q d u : ℕ) → Downstream b p d → Upstream b q u → bit d q ≡ 1 → bit u p ≡ 1
+  down-up few q d u down up h = up .all p (few, down .marked q h .1)
 
-  pub up-down : (q d u : ℕ) → Downstream b p d → Upstream b q u → bit u p ≡ 1 → bit d q ≡ 1
-  up-down q d u down up h = down .all q (up .marked p h)
+  pub up-down : (q : ℕ) → q < 64 → (d u : ℕ) → Downstream b p d → Upstream b q u → bit u p ≡ 1 → bit d q ≡ 1
+  up-down q few d u down up h = down .all q (few, up .marked p h .1)
 
 -- ---- `downstream`, `upstream`
-pub downstream-said : (b : Board) (p r : ℕ) → r ≡ coneOf b false p → WellFormed b → p < b .parts → Downstream b p r
+pub downstream-said : (b : Board) (p r : ℕ) → r ≡ coneOf b false p → WellFormed b → Downstream b p r
 unfolding downstreamOf
-downstream-said b p r e ok h = rw e (downstream-is b ok p h)
+downstream-said b p r e ok = rw e (downstream-is b ok p)
 
-pub upstream-said : (b : Board) (p r : ℕ) → r ≡ coneOf b true p → WellFormed b → p < b .parts → Upstream b p r
+pub upstream-said : (b : Board) (p r : ℕ) → r ≡ coneOf b true p → WellFormed b → Upstream b p r
 unfolding upstreamOf
-upstream-said b p r e ok h = rw e (upstream-is b ok p h)
+upstream-said b p r e ok = rw e (upstream-is b ok p)

@@ -9,12 +9,13 @@ use Rattle.board.specs.Leads.{Leads, Reach, LoopFree}
 use Rattle.cone.specs.declared.Loop.{Loop}
 use Rattle.cone.specs.declared.Loop.the-variants.{At, Free}
 
--- 01, Questions: "Upstream and downstream of a part: a set of 64 marks, bit n for part n, the part itself included"
+-- 01, Questions: "Upstream and downstream of a part: a set of 64 marks, bit n for part n, the part itself included". Any number may be asked for: one
+-- that is no part has itself alone, and one that no mark is for has none.
 abbrev pub Downstream : Board → ℕ → ℕ → Type 0
-Downstream b p set = Exactly (λ q. Reach b p q) set
+Downstream b p set = Exactly (λ q. (q < 64) × Reach b p q) set
 
 abbrev pub Upstream : Board → ℕ → ℕ → Type 0
-Upstream b p set = Exactly (λ q. Reach b q p) set
+Upstream b p set = Exactly (λ q. (q < 64) × Reach b q p) set
 
 -- refusal 9's place: "lowest part on a loop"
 pub record LowestOnLoop (b : Board) (p : ℕ) : Type 0 where

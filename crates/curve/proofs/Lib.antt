@@ -2,3 +2,4 @@ pub mod CurveLaws
 pub mod GoodLaws
 pub mod Ways
 pub mod Case1
+pub mod RowLaws

@@ -1,3 +1,4 @@
 pub mod Curve
 pub mod Answers
 pub mod Tests
+pub mod Rows

@@ -1,12 +1,15 @@
 // A part's curve: how slow it may be and what each tick of that saves. Ticks and microwatts are two types, and neither is taken for the other.
 // Every contract holds for any value of a curve: powers and savings go run by run and take off as they go, and ticks past their type stay at its
 // greatest.
+use base::lesser;
 use refusal::Why;
 ghost use mathlib.Core.Path.{_≡_};
-ghost use Prim.Native.Nat.{_+_, _*_, _-_, _<_, min};
+ghost use Prim.Native.Nat.{_+_, _*_, _-_, _<_, max, min};
 ghost use lib.Dec.{leb};
 ghost use Rattle.base.specs.Decides.{Decides};
+ghost use Rattle.base.specs.Table.{table};
 ghost use Rattle.curve.specs.Curve.{slowestOf, savingsOf, Good};
+ghost use Rattle.curve.specs.Rows.{noTicks, noPower};
 ghost use Rattle.curve.specs.Answers.{flatOf, nextSavingOf, lastSavingOf, offCurve, powerAtOf, usedOf};
 ghost use Rattle.curve.specs.Tests.{every, blankb, rangedb, placeb};
 
@@ -48,11 +51,18 @@ struct Slowing {
     power: Microwatts,
 }
 
-// The lesser of two numbers.
-fn lesser(a: usize, b: usize) -> usize
-    ensures { λ r. ⌜ r ≡ min a b ⌝ }
+// No ticks at any of the 64 places that parts may have.
+pub fn no_ticks() -> [Ticks; 64]
+    ensures { λ r. ⌜ r ≡ table 64 (λ p. noTicks) ⌝ }
 {
-    if a < b { a } else { b }
+    [Ticks(0); 64]
+}
+
+// No power at any.
+pub fn no_powers() -> [Microwatts; 64]
+    ensures { λ r. ⌜ r ≡ table 64 (λ p. noPower) ⌝ }
+{
+    [Microwatts(0); 64]
 }
 
 // How far a is above b.
@@ -83,6 +93,24 @@ impl Ticks {
             return Ticks(u32::MAX);
         }
         Ticks(self.0 + more.0)
+    }
+
+    // What is left of these ticks after others; none where those are more.
+    pub fn less(self, other: Ticks) -> Ticks
+        ensures { λ r. ⌜ r .0 ≡ self .0 - other .0 ⌝ }
+    {
+        if self.0 < other.0 {
+            Ticks(0)
+        } else {
+            Ticks(self.0 - other.0)
+        }
+    }
+
+    // The greater of two counts of ticks: the later of two times.
+    pub fn later(self, other: Ticks) -> Ticks
+        ensures { λ r. ⌜ r .0 ≡ max (self .0) (other .0) ⌝ }
+    {
+        if self.0 < other.0 { other } else { self }
     }
 }
 

@@ -55,21 +55,21 @@ fn refused(why: Why, place: usize) -> CurveRead
     CurveRead {
         answer: Answer::Refused { why, place },
         next: 0,
-        curve: bare_curve(0, 0, 0),
+        curve: bare_curve(Ticks(0), Microwatts(0), 0),
     }
 }
 
 // A curve before its runs are read.
-fn bare_curve(fastest: u32, power: u32, count: usize) -> Curve
-    ensures { λ r. ⌜ r ≡ bare fastest power count ⌝ }
+fn bare_curve(fastest: Ticks, power: Microwatts, count: usize) -> Curve
+    ensures { λ r. ⌜ r ≡ bare (fastest .0) (power .0) count ⌝ }
 {
     let none = Run {
         length: Ticks(0),
         saving: Microwatts(0),
     };
     Curve {
-        fastest: Ticks(fastest),
-        power: Microwatts(power),
+        fastest,
+        power,
         count,
         runs: [none; 4],
     }
@@ -154,7 +154,11 @@ fn read_runs(s: &[u8], fastest: u32, power: u32, from: usize, at: usize) -> Curv
     match field(s, at, 0, 4) {
         Read::Refused { why, place } => refused(why, place),
         Read::Number { value: count, next } => {
-            let r = each_run(s, bare_curve(fastest, power, count as usize), next);
+            let r = each_run(
+                s,
+                bare_curve(Ticks(fastest), Microwatts(power), count as usize),
+                next,
+            );
             let a = r.answer;
             let Answer::Done = a else {
                 return r;

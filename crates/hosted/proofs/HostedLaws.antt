@@ -32,7 +32,7 @@ loads-once s d d′ l l′ =
 pub total-once : (s : List ℕ) (r r′ : ℕ) → TotalOf s r → TotalOf s r′ → r ≡ r′
 total-once s r r′ t t′ =
     let same = loads-once s (t .held) (t′ .held) (t .load) (t′ .load) in
-    t .total ∙ ap (λ b. b .total) (same .budget) ∙ sym (t′ .total)
+    t .total ∙ ap (λ b. b .total .0) (same .budget) ∙ sym (t′ .total)
 
 -- what is found so many times is found once
 pub last-once : (Is : ℕ → Type 0) → ((r r′ : ℕ) → Is r → Is r′ → r ≡ r′) → (times r r′ : ℕ) → LastOf Is times r → LastOf Is times r′ → r ≡ r′

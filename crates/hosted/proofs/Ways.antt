@@ -16,7 +16,7 @@ use Rattle.hosted.specs.Hosted.{LoadOf, TotalOf, UpstreamOf, LastOf, nev
 pub load-of : (s : List ℕ) (e : Desk) (l : Loaded) → e ≡ emptyDesk → LoadSaid e 0 s (record { taken = 0; refused = 0 }) l → LoadOf s (l .desk)
 load-of s e l is said = record { load = l; said = rw is at said; desk = refl }
 
-pub total-of : (s : List ℕ) (d : Desk) → LoadOf s d → TotalOf s (d .budget .total)
+pub total-of : (s : List ℕ) (d : Desk) → LoadOf s d → TotalOf s (d .budget .total .0)
 total-of s d load = record { held = d; load = load; total = refl }
 
 pub upstream-of : (d : Desk) (part : ℕ) (q : ConeAsked) → UpstreamSaid d part q → UpstreamOf d part (q .cone .set)

@@ -20,7 +20,7 @@ pub record LoadOf (s : List ℕ) (d : Desk) : Type 0 where
 pub record TotalOf (s : List ℕ) (r : ℕ) : Type 0 where
   pub held : Desk
   pub load : LoadOf s held
-  pub total : r ≡ held .budget .total
+  pub total : r ≡ held .budget .total .0
 
 -- the set upstream of a part; 0 where the question is refused
 pub record UpstreamOf (d : Desk) (part r : ℕ) : Type 0 where

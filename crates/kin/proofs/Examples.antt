@@ -7,11 +7,12 @@ use Prim.Native.Nat.{ℕ, zero, suc, _<_}
 use native.Mathlib.Omega.{arith}
 use lib.Dec.{lit<}
 use Rattle.base.specs.Pick.{pick}
-use Rattle.theory.specs.Sum.{cells}
+use Rattle.curve.specs.Rows.{ticksAt}
 use Rattle.marks.specs.Marks.{bit}
 use Rattle.marks.proofs.Bits.{bit-past}
 use Rattle.board.specs.declared.Link.{Link}
 use Rattle.board.specs.declared.Board.{Board}
+use Rattle.budget.specs.declared.Budget.{Budget}
 use Rattle.board.specs.Board.{plainLink, linkAt, delayOf}
 use Rattle.kin.specs.declared.Kin.{Kin}
 use Rattle.kin.specs.Critical.{criticalb, criticalAt, Critical}
@@ -38,9 +39,9 @@ only P first zero h = first
 only P first (suc n) h = absurd (omega (arith, bit-past 1 1 (suc n) (lit< tt) (omega arith)))
 
 module _ (b : Board) (links : b .links ≡ 3) (l0 : linkAt b 0 ≡ link 0 1) (l1 : linkAt b 1 ≡ link 0 3) (l2 : linkAt b 2 ≡ link 1 2) where
-  module _ (start end : List ℕ) (s1 : cells start 1 ≡ 4) (s2 : cells start 2 ≡ 7) (s3 : cells start 3 ≡ 4) (e0 : cells end 0 ≡ 4) (e1 : cells end 1 ≡ 7) where
+  module _ (held : Budget) (s1 : ticksAt (held .start) 1 ≡ 4) (s2 : ticksAt (held .start) 2 ≡ 7) (s3 : ticksAt (held .start) 3 ≡ 4) (e0 : ticksAt (held .end) 0 ≡ 4) (e1 : ticksAt (held .end) 1 ≡ 7) where
     -- all three links are critical
-    all-critical : (l : ℕ) → l < 3 → criticalAt b start end l ≡ true
+    all-critical : (l : ℕ) → l < 3 → criticalAt b held l ≡ true
     unfolding criticalAt criticalb delayOf pick
     all-critical zero h = rw (links, l0, e0, s1)
     all-critical (suc zero) h = rw (links, l1, e0, s3)
@@ -53,16 +54,16 @@ module _ (b : Board) (links : b .links ≡ 3) (l0 : linkAt b 0 ≡ link 0 1) (l1
     by-number P a c d (suc (suc zero)) h = rw l2 d
     by-number P a c d (suc (suc (suc l))) h = absurd (omega arith)
 
-    by-link : (P : ℕ → ℕ → Type 0) → P 0 1 → P 0 3 → P 1 2 → (r q : ℕ) → Critical b start end r q → P r q
-    by-link P a c d r q k = rw (← k .from, ← k .to) (by-number P a c d (k .link) (omega (arith, at-critical b start end (k .link) (k .critical) .0, links)))
+    by-link : (P : ℕ → ℕ → Type 0) → P 0 1 → P 0 3 → P 1 2 → (r q : ℕ) → Critical b held r q → P r q
+    by-link P a c d r q k = rw (← k .from, ← k .to) (by-number P a c d (k .link) (omega (arith, at-critical b held (k .link) (k .critical) .0, links)))
 
-    critical-0-1 : Critical b start end 0 1
+    critical-0-1 : Critical b held 0 1
     critical-0-1 = record { link = 0; from = rw l0; to = rw l0; critical = all-critical 0 (omega arith) }
 
-    critical-0-3 : Critical b start end 0 3
+    critical-0-3 : Critical b held 0 3
     critical-0-3 = record { link = 1; from = rw l1; to = rw l1; critical = all-critical 1 (omega arith) }
 
-    closed-K : Closed (Critical b start end) 0 1 10
+    closed-K : Closed (Critical b held) 0 1 10
     unfolding bit
     closed-K = record {
       begin = λ h. refl;
@@ -70,7 +71,7 @@ module _ (b : Board) (links : b .links ≡ 3) (l0 : linkAt b 0 ≡ link 0 1) (l1
       parent = λ r q h c. by-link (λ (x y : ℕ). bit 10 y ≡ 1 → bit 1 x ≡ 1) (λ g. refl) (λ g. refl) (λ g. absurd (omega arith)) r q c h;
     }
 
-    pub kin-is : KinOf (Critical b start end) 0 (record { parents = 1; children = 10 })
+    pub kin-is : KinOf (Critical b held) 0 (record { parents = 1; children = 10 })
     kin-is = record {
       parents-fit = lit< tt;
       children-fit = lit< tt;
@@ -80,5 +81,5 @@ module _ (b : Board) (links : b .links ≡ 3) (l0 : linkAt b 0 ≡ link 0 1) (l1
     }
 
     -- so this is what `kin_of` gives
-    pub kin-K : (k : Kin) → KinOf (Critical b start end) 0 k → k ≡ record { parents = 1; children = 10 }
-    kin-K k is = kin-once (Critical b start end) 0 k (record { parents = 1; children = 10 }) is kin-is
+    pub kin-K : (k : Kin) → KinOf (Critical b held) 0 k → k ≡ record { parents = 1; children = 10 }
+    kin-K k is = kin-once (Critical b held) 0 k (record { parents = 1; children = 10 }) is kin-is

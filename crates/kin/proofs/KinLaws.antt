@@ -10,6 +10,7 @@ use Rattle.base.proofs.Cases.{lt-or-le}
 use Rattle.marks.specs.Marks.{bit, oneOf, removeOf}
 use Rattle.marks.proofs.Bits.{bit-lt, bit-or-not, bit-without, bit-one-same, one-fits, mark-below, remove-same, remove-other, same-marks}
 use Rattle.board.specs.declared.Board.{Board}
+use Rattle.budget.specs.declared.Budget.{Budget}
 use Rattle.kin.specs.declared.Rows.{Rows}
 use Rattle.kin.specs.declared.Kin.{Kin}
 use Rattle.kin.specs.Critical.{Critical, CriticalRows}
@@ -110,13 +111,13 @@ module _ (Leads : ℕ → ℕ → Type 0) (first : ℕ) where
       })
 
 -- ---- `kin_of`: what grows from the first part alone over the critical links
-module _ (b : Board) (start end : List ℕ) (p o : ℕ) (t : Rows) (k : Kin) (rows : CriticalRows b start end t) (one : o ≡ oneOf p) where
-  pub kin-so : (Led (t .up) 0 o → Grown t o 0 k) → KinOf (Critical b start end) p k
+module _ (b : Board) (held : Budget) (p o : ℕ) (t : Rows) (k : Kin) (rows : CriticalRows b held t) (one : o ≡ oneOf p) where
+  pub kin-so : (Led (t .up) 0 o → Grown t o 0 k) → KinOf (Critical b held) p k
   kin-so grown =
       let g : Grown t o 0 k = grown (λ r q h l. absurd (none-in r h)) in
-      let down : (s u : ℕ) → Closed (Critical b start end) p s u → Led (t .down) s u = λ s u c r q h l. c .child r q h (rows .down r .marked q l) in
-      let back : (s u : ℕ) → Closed (Critical b start end) p s u → Led (t .up) u s = λ s u c q r h l. c .parent r q h (rows .up q .marked r l) in
-      let first : (s u : ℕ) → Closed (Critical b start end) p s u → Within o s = λ s u c. rw one (first-in (Critical b start end) p s u c) in
+      let down : (s u : ℕ) → Closed (Critical b held) p s u → Led (t .down) s u = λ s u c r q h l. c .child r q h (rows .down r .marked q l) in
+      let back : (s u : ℕ) → Closed (Critical b held) p s u → Led (t .up) u s = λ s u c q r h l. c .parent r q h (rows .up q .marked r l) in
+      let first : (s u : ℕ) → Closed (Critical b held) p s u → Within o s = λ s u c. rw one (first-in (Critical b held) p s u c) in
       record {
         parents-fit = g .parents-fit;
         children-fit = g .children-fit;

@@ -13,6 +13,7 @@ use Rattle.base.proofs.Cases.{lt-or-le, eq-or-ne, finished}
 use Rattle.marks.specs.Marks.{bit, insertOf, Exactly}
 use Rattle.marks.proofs.Bits.{bit-none, insert-same, insert-other, insert-keeps, insert-fits, exactly-once}
 use Rattle.board.specs.declared.Board.{Board}
+use Rattle.budget.specs.declared.Budget.{Budget}
 use Rattle.board.specs.Board.{linkAt}
 use Rattle.kin.specs.declared.Rows.{Rows}
 use Rattle.kin.specs.Critical.{criticalb, Critical, CriticalRows}
@@ -113,16 +114,16 @@ module _ (test : ℕ → Bool) (from to : ℕ → ℕ) where
 rows-same : (R : ℕ → ℕ → Type 0) (a c : List ℕ) → length a ≡ 64 → length c ≡ 64 → ((p : ℕ) → Exactly (R p) (getD a p 0)) → ((p : ℕ) → Exactly (R p) (getD c p 0)) → a ≡ c
 rows-same R a c ra rc ea ec = ext-getD 0 a c (ra ∙ sym rc) (λ p h. exactly-once (R p) (getD a p 0) (getD c p 0) (ea p) (ec p))
 
-pub rows-once : (b : Board) (start end : List ℕ) (t u : Rows) → CriticalRows b start end t → CriticalRows b start end u → t ≡ u
-rows-once b start end t u x y =
-    let down : t .down ≡ u .down = rows-same (λ p q. Critical b start end p q) (t .down) (u .down) (x .down-room) (y .down-room) (x .down) (y .down) in
-    let up : t .up ≡ u .up = rows-same (λ q p. Critical b start end p q) (t .up) (u .up) (x .up-room) (y .up-room) (x .up) (y .up) in
+pub rows-once : (b : Board) (held : Budget) (t u : Rows) → CriticalRows b held t → CriticalRows b held u → t ≡ u
+rows-once b held t u x y =
+    let down : t .down ≡ u .down = rows-same (λ p q. Critical b held p q) (t .down) (u .down) (x .down-room) (y .down-room) (x .down) (y .down) in
+    let up : t .up ≡ u .up = rows-same (λ q p. Critical b held p q) (t .up) (u .up) (x .up-room) (y .up-room) (x .up) (y .up) in
     ap (λ (r : List ℕ). record { down = r; up = t .up }) down ∙ ap (λ (r : List ℕ). record { down = u .down; up = r }) up
 
 -- ---- the rows of a board
-module _ (b : Board) (start end : List ℕ) where
+module _ (b : Board) (held : Budget) where
   abbrev passes : ℕ → Bool
-  passes l = criticalb start end (linkAt b l)
+  passes l = criticalb held (linkAt b l)
 
   abbrev first : ℕ → ℕ
   first l = linkAt b l .from
@@ -133,32 +134,32 @@ module _ (b : Board) (start end : List ℕ) where
   abbrev all : ℕ
   all = min (b .links) 256
 
-  down-is : (p : ℕ) → Exactly (λ q. Critical b start end p q) (getD (rowsUpTo b start end all .down) p 0)
+  down-is : (p : ℕ) → Exactly (λ q. Critical b held p q) (getD (rowsUpTo b held all .down) p 0)
   unfolding rowsUpTo
   down-is p = record {
     fits = marks-fit passes first second all p;
-    marked = λ q h. let e : Entry passes first second all p q = mark-entry passes first second all p q h in record { link = e .link; from = e .leaves; to = e .enters; critical = critical-at b start end (e .link) (e .here) (e .passes) };
+    marked = λ q h. let e : Entry passes first second all p q = mark-entry passes first second all p q h in record { link = e .link; from = e .leaves; to = e .enters; critical = critical-at b held (e .link) (e .here) (e .passes) };
     all = λ q c.
-        let at = at-critical b start end (c .link) (c .critical) in
-        let m : Meets start end (linkAt b (c .link)) = critical-meets start end (linkAt b (c .link)) (at .1) in
+        let at = at-critical b held (c .link) (c .critical) in
+        let m : Meets held (linkAt b (c .link)) = critical-meets held (linkAt b (c .link)) (at .1) in
         rw (← c .from, ← c .to) (entry-mark passes first second all (c .link) (at .0) (at .1) (m .from-in) (m .to-in));
   }
 
-  up-is : (q : ℕ) → Exactly (λ p. Critical b start end p q) (getD (rowsUpTo b start end all .up) q 0)
+  up-is : (q : ℕ) → Exactly (λ p. Critical b held p q) (getD (rowsUpTo b held all .up) q 0)
   unfolding rowsUpTo
   up-is q = record {
     fits = marks-fit passes second first all q;
-    marked = λ p h. let e : Entry passes second first all q p = mark-entry passes second first all q p h in record { link = e .link; from = e .enters; to = e .leaves; critical = critical-at b start end (e .link) (e .here) (e .passes) };
+    marked = λ p h. let e : Entry passes second first all q p = mark-entry passes second first all q p h in record { link = e .link; from = e .enters; to = e .leaves; critical = critical-at b held (e .link) (e .here) (e .passes) };
     all = λ p c.
-        let at = at-critical b start end (c .link) (c .critical) in
-        let m : Meets start end (linkAt b (c .link)) = critical-meets start end (linkAt b (c .link)) (at .1) in
+        let at = at-critical b held (c .link) (c .critical) in
+        let m : Meets held (linkAt b (c .link)) = critical-meets held (linkAt b (c .link)) (at .1) in
         rw (← c .from, ← c .to) (entry-mark passes second first all (c .link) (at .0) (at .1) (m .to-in) (m .from-in));
   }
 
-  pub rows-critical : CriticalRows b start end (rowsUpTo b start end all)
+  pub rows-critical : CriticalRows b held (rowsUpTo b held all)
   unfolding rowsUpTo
   rows-critical =
       record { down = down-is; up = up-is; down-room = marks-room passes first second all; up-room = marks-room passes second first all }
 
-  pub rows-done : (t : Rows) (k n : ℕ) → n ≡ min (b .links) 256 → k ≤ n → n ≤ k → t ≡ rowsUpTo b start end k → CriticalRows b start end t
-  rows-done t k n e l h is = let done : t ≡ rowsUpTo b start end n = finished (rowsUpTo b start end) l h is in rw (done, e) rows-critical
+  pub rows-done : (t : Rows) (k n : ℕ) → n ≡ min (b .links) 256 → k ≤ n → n ≤ k → t ≡ rowsUpTo b held k → CriticalRows b held t
+  rows-done t k n e l h is = let done : t ≡ rowsUpTo b held n = finished (rowsUpTo b held) l h is in rw (done, e) rows-critical

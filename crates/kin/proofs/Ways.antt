@@ -12,10 +12,12 @@ use borrow.Author.Tests.{lt-ltb, le-ltb, eq-eqb, ne-eqb, not-true, not-false}
 use mathlib.Core.Logic.{⊎-elim}
 use Rattle.base.specs.Pick.{pick}
 use Rattle.base.proofs.Cases.{finished, eq-or-ne}
-use Rattle.theory.specs.Sum.{cells}
+use Rattle.curve.specs.declared.Ticks.{Ticks}
+use Rattle.curve.specs.Rows.{ticksAt}
 use Rattle.marks.specs.Marks.{hasOf, unionOf, insertOf}
 use Rattle.board.specs.declared.Link.{Link}
 use Rattle.board.specs.declared.Board.{Board}
+use Rattle.budget.specs.declared.Budget.{Budget}
 use Rattle.board.specs.Board.{linkAt, delayOf}
 use Rattle.kin.specs.declared.Rows.{Rows}
 use Rattle.kin.specs.Critical.{criticalb, criticalAt}
@@ -30,33 +32,33 @@ eqb-less e s w h =
     (λ ne. ne-eqb (s - e) w ne ∙ sym (ne-eqb (e + w) s (λ g. ne (omega arith))))
     (eq-or-ne (s - e) w)
 
-module _ (start end : List ℕ) (l : Link) where
-  pub from-past : 64 ≤ l .from → false ≡ criticalb start end l
+module _ (held : Budget) (l : Link) where
+  pub from-past : 64 ≤ l .from → false ≡ criticalb held l
   unfolding criticalb pick
   from-past h = rw (le-ltb (l .from) 64 h)
 
-  pub to-past : l .from < 64 → 64 ≤ l .to → false ≡ criticalb start end l
+  pub to-past : l .from < 64 → 64 ≤ l .to → false ≡ criticalb held l
   unfolding criticalb pick
   to-past h g = rw (lt-ltb (l .from) 64 h, le-ltb (l .to) 64 g)
 
-  critical-by : l .from < 64 → l .to < 64 → criticalb start end l ≡ eqb (cells end (l .from) + delayOf l) (cells start (l .to))
+  critical-by : l .from < 64 → l .to < 64 → criticalb held l ≡ eqb (ticksAt (held .end) (l .from) + delayOf l) (ticksAt (held .start) (l .to))
   unfolding criticalb pick
   critical-by h g = rw (lt-ltb (l .from) 64 h, lt-ltb (l .to) 64 g)
 
-  pub too-early : l .from < 64 → l .to < 64 → cells start (l .to) < cells end (l .from) → false ≡ criticalb start end l
-  too-early h g less = sym (critical-by h g ∙ ne-eqb (cells end (l .from) + delayOf l) (cells start (l .to)) (λ e. omega (arith, e)))
+  pub too-early : l .from < 64 → l .to < 64 → ticksAt (held .start) (l .to) < ticksAt (held .end) (l .from) → false ≡ criticalb held l
+  too-early h g less = sym (critical-by h g ∙ ne-eqb (ticksAt (held .end) (l .from) + delayOf l) (ticksAt (held .start) (l .to)) (λ e. omega (arith, e)))
 
-  pub compared : (w : ℕ) → l .from < 64 → l .to < 64 → cells end (l .from) ≤ cells start (l .to) → w ≡ delayOf l
-      → eqb (cells start (l .to) - cells end (l .from)) w ≡ criticalb start end l
-  compared w h g le e = rw e (eqb-less (cells end (l .from)) (cells start (l .to)) (delayOf l) le ∙ sym (critical-by h g))
+  pub compared : (w : Ticks) → l .from < 64 → l .to < 64 → ticksAt (held .end) (l .from) ≤ ticksAt (held .start) (l .to) → w .0 ≡ delayOf l
+      → eqb (ticksAt (held .start) (l .to) - ticksAt (held .end) (l .from)) (w .0) ≡ criticalb held l
+  compared w h g le e = rw e (eqb-less (ticksAt (held .end) (l .from)) (ticksAt (held .start) (l .to)) (delayOf l) le ∙ sym (critical-by h g))
 
 -- ---- `link_is_critical`
-module _ (b : Board) (start end : List ℕ) (n l : ℕ) (links : n ≡ min (b .links) 256) where
-  pub no-such-link : n ≤ l → false ≡ criticalAt b start end l
+module _ (b : Board) (held : Budget) (n l : ℕ) (links : n ≡ min (b .links) 256) where
+  pub no-such-link : n ≤ l → false ≡ criticalAt b held l
   unfolding criticalAt pick
   no-such-link h = rw (← links, le-ltb l n h)
 
-  pub such-link : (t : Bool) → l < n → t ≡ criticalb start end (linkAt b l) → t ≡ criticalAt b start end l
+  pub such-link : (t : Bool) → l < n → t ≡ criticalb held (linkAt b l) → t ≡ criticalAt b held l
   unfolding criticalAt pick
   such-link t h is = rw (← links, lt-ltb l n h) is
 
@@ -88,13 +90,13 @@ unfolding withLinkOf
 with-link-so t add l d u ed eu = rw (ed, eu)
 
 -- ---- `critical_rows`
-module _ (b : Board) (start end : List ℕ) where
-  pub rows-none : (t : Rows) → t ≡ noRowsOf → t ≡ rowsUpTo b start end 0
+module _ (b : Board) (held : Budget) where
+  pub rows-none : (t : Rows) → t ≡ noRowsOf → t ≡ rowsUpTo b held 0
   unfolding rowsUpTo marksUpTo noRowsOf
   rows-none t e = e
 
-  pub rows-more : (t r : Rows) (add : Bool) (k : ℕ) → t ≡ rowsUpTo b start end k → add ≡ criticalb start end (linkAt b k)
-      → r ≡ withLinkOf t add (linkAt b k) → r ≡ rowsUpTo b start end (k + 1)
+  pub rows-more : (t r : Rows) (add : Bool) (k : ℕ) → t ≡ rowsUpTo b held k → add ≡ criticalb held (linkAt b k)
+      → r ≡ withLinkOf t add (linkAt b k) → r ≡ rowsUpTo b held (k + 1)
   unfolding rowsUpTo marksUpTo withLinkOf
   rows-more t r add k is ea er = rw (add-one, ← ea) (rw is at er)
 

@@ -11,6 +11,7 @@ use Rattle.base.specs.Pick.{pick}
 use Rattle.marks.specs.Marks.{bit, hasOf, unionOf, insertOf}
 use Rattle.board.specs.declared.Link.{Link}
 use Rattle.board.specs.declared.Board.{Board}
+use Rattle.budget.specs.declared.Budget.{Budget}
 use Rattle.board.specs.Board.{linkAt}
 use Rattle.kin.specs.declared.Rows.{Rows}
 use Rattle.kin.specs.declared.Kin.{Kin}
@@ -37,10 +38,10 @@ marksUpTo test from to zero = noMarks
 marksUpTo test from to (suc k) = markedOf (marksUpTo test from to k) (test k) (from k) (to k)
 
 -- by the first k links
-unfoldable pub rowsUpTo : Board → List ℕ → List ℕ → ℕ → Rows
-rowsUpTo b start end k = record {
-  down = marksUpTo (λ l. criticalb start end (linkAt b l)) (λ l. linkAt b l .from) (λ l. linkAt b l .to) k;
-  up = marksUpTo (λ l. criticalb start end (linkAt b l)) (λ l. linkAt b l .to) (λ l. linkAt b l .from) k;
+unfoldable pub rowsUpTo : Board → Budget → ℕ → Rows
+rowsUpTo b held k = record {
+  down = marksUpTo (λ l. criticalb held (linkAt b l)) (λ l. linkAt b l .from) (λ l. linkAt b l .to) k;
+  up = marksUpTo (λ l. criticalb held (linkAt b l)) (λ l. linkAt b l .to) (λ l. linkAt b l .from) k;
 }
 
 -- ---- a set and all that the rows of those seen mark

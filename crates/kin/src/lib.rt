@@ -1,8 +1,9 @@
 // Critical links, and the parents and children of a part: two steps that call each other until neither set grows.
+use base::lesser;
 use board::Board;
 use board::Link;
+use budget::Budget;
 ghost use mathlib.Core.Path.{_≡_};
-ghost use Prim.Native.Nat.{_<_, min};
 ghost use Rattle.kin.specs.Critical.{criticalb, criticalAt, Critical, CriticalRows};
 ghost use Rattle.kin.specs.Kin.{KinOf};
 ghost use Rattle.kin.specs.Steps.{noMarks, noRowsOf, markedOf, withLinkOf, joinedOf, gatheredOf, Led, Grown};
@@ -18,18 +19,9 @@ pub struct Kin {
     pub children: u64,
 }
 
-fn capped(n: usize, most: usize) -> usize
-    ensures { λ r. ⌜ r ≡ min n most ⌝ }
-{
-    if n < most {
-        return n;
-    }
-    most
-}
-
 // Whether a link is critical. The difference is compared with the link's ticks, so no sum can overflow.
-fn critical(start: [u32; 64], end: [u32; 64], l: Link) -> bool
-    ensures { λ r. ⌜ r ≡ criticalb start end l ⌝ }
+fn critical(held: Budget, l: Link) -> bool
+    ensures { λ r. ⌜ r ≡ criticalb held l ⌝ }
 {
     let p = l.from;
     let q = l.to;
@@ -39,23 +31,24 @@ fn critical(start: [u32; 64], end: [u32; 64], l: Link) -> bool
     if 64 <= q {
         return false;
     }
-    let e = end[p];
-    let s = start[q];
-    if s < e {
+    let e = held.end[p];
+    let s = held.start[q];
+    if s.0 < e.0 {
         return false;
     }
-    s - e == board::link_delay(l)
+    let delay = board::link_delay(l);
+    s.0 - e.0 == delay.0
 }
 
 // Whether link l of the board is critical; false where the board has no link l.
-pub fn link_is_critical(b: Board, start: [u32; 64], end: [u32; 64], l: usize) -> bool
-    ensures { λ r. ⌜ r ≡ criticalAt b start end l ⌝ }
+pub fn link_is_critical(b: Board, held: Budget, l: usize) -> bool
+    ensures { λ r. ⌜ r ≡ criticalAt b held l ⌝ }
 {
-    let n = capped(b.links, 256);
+    let n = lesser(b.links, 256);
     if n <= l {
         return false;
     }
-    critical(start, end, b.link[l])
+    critical(held, b.link[l])
 }
 
 fn no_marks() -> [u64; 64]
@@ -104,15 +97,15 @@ fn with_link(t: Rows, add: bool, l: Link) -> Rows
 }
 
 // The critical links of the board.
-fn critical_rows(b: Board, start: [u32; 64], end: [u32; 64]) -> Rows
-    ensures { λ r. ⌜ CriticalRows b start end r ⌝ }
+fn critical_rows(b: Board, held: Budget) -> Rows
+    ensures { λ r. ⌜ CriticalRows b held r ⌝ }
 {
-    let n = capped(b.links, 256);
+    let n = lesser(b.links, 256);
     let mut t = no_rows();
     let mut k: usize = 0;
     while k < n {
         let l = b.link[k];
-        let next = with_link(t, critical(start, end, l), l);
+        let next = with_link(t, critical(held, l), l);
         t = next;
         k = k + 1;
     }
@@ -173,9 +166,9 @@ fn parent_step(t: Rows, parents: u64, children: u64) -> Kin
 }
 
 // The parents and children of part p; a p of 64 or more has neither.
-pub fn kin_of(b: Board, start: [u32; 64], end: [u32; 64], p: usize) -> Kin
-    ensures { λ r. ⌜ KinOf (Critical b start end) p r ⌝ }
+pub fn kin_of(b: Board, held: Budget, p: usize) -> Kin
+    ensures { λ r. ⌜ KinOf (Critical b held) p r ⌝ }
 {
-    let t = critical_rows(b, start, end);
+    let t = critical_rows(b, held);
     child_step(t, marks::one(p), 0)
 }

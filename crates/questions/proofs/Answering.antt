@@ -19,6 +19,7 @@ use Rattle.curve.specs.declared.Power.the-variants as power
 use Rattle.curve.specs.Curve.{Good, slowestOf}
 use Rattle.curve.specs.Answers.{powerAtOf}
 use Rattle.curve.proofs.CurveLaws.{power-at-past, slowest-to}
+use Rattle.curve.specs.Rows.{noTicks, noPower}
 use Rattle.board.specs.Board.{WellFormed, curveAt, linkAt}
 use Rattle.cone.specs.Cone.{Upstream, Downstream}
 use Rattle.kin.specs.declared.Kin.{Kin}
@@ -69,19 +70,19 @@ module _ (d : Desk) (p : ℕ) (done : partTried d p ≡ Done) where
 -- ---- questions of a part
 module _ (d : Desk) (p : ℕ) (a : Answer) (tried : a ≡ partTried d p) where
   -- sets
-  cone-given : (C : ℕ → Type 0) (set : ℕ) (k : Marked) → a ≡ Done → (WellFormed (d .board) → p < d .board .parts → C set) → k ≡ countedOf set →
+  cone-given : (C : ℕ → Type 0) (set : ℕ) (k : Marked) → a ≡ Done → (WellFormed (d .board) → C set) → k ≡ countedOf set →
       Said (partTried d p) d coneRefused (ConeGiven C) (record { answer = a; cone = k })
   unfolding countedOf
   cone-given C set k is cone counted =
       let done : partTried d p ≡ Done = sym tried ∙ is in
-      rw (done, is, counted) (λ st. record { done = refl; set = cone (done-formed d p done st) (done-part d p done); count = refl })
+      rw (done, is, counted) (λ st. record { done = refl; set = cone (done-formed d p done st); count = refl })
 
   cone-none : (C : ℕ → Type 0) (why : Why) (place : ℕ) (k : Marked) → a ≡ Refused why place → k ≡ countedOf 0 →
       Said (partTried d p) d coneRefused (ConeGiven C) (record { answer = a; cone = k })
   unfolding countedOf
   cone-none C why place k is none = rw (← tried, is, none, ones-none)
 
-  pub upstream-given : (set : ℕ) (k : Marked) → a ≡ Done → (WellFormed (d .board) → p < d .board .parts → Upstream (d .board) p set) → k ≡ countedOf set →
+  pub upstream-given : (set : ℕ) (k : Marked) → a ≡ Done → (WellFormed (d .board) → Upstream (d .board) p set) → k ≡ countedOf set →
       UpstreamSaid d p (record { answer = a; cone = k })
   unfolding UpstreamSaid
   upstream-given = cone-given (Upstream (d .board) p)
@@ -90,7 +91,7 @@ module _ (d : Desk) (p : ℕ) (a : Answer) (tried : a ≡ partTried d p) where
   unfolding UpstreamSaid
   upstream-none = cone-none (Upstream (d .board) p)
 
-  pub downstream-given : (set : ℕ) (k : Marked) → a ≡ Done → (WellFormed (d .board) → p < d .board .parts → Downstream (d .board) p set) → k ≡ countedOf set →
+  pub downstream-given : (set : ℕ) (k : Marked) → a ≡ Done → (WellFormed (d .board) → Downstream (d .board) p set) → k ≡ countedOf set →
       DownstreamSaid d p (record { answer = a; cone = k })
   unfolding DownstreamSaid
   downstream-given = cone-given (Downstream (d .board) p)
@@ -131,10 +132,10 @@ module _ (d : Desk) (p : ℕ) (a : Answer) (tried : a ≡ partTried d p) where
   -- times
   pub part-given : a ≡ Done → PartSaid d p (record {
     answer = a;
-    start = record { 0 = getD (d .budget .start) p 0 };
-    delay = record { 0 = getD (d .budget .delay) p 0 };
-    end = record { 0 = getD (d .budget .end) p 0 };
-    power = record { 0 = getD (d .budget .power) p 0 };
+    start = getD (d .budget .start) p noTicks;
+    delay = getD (d .budget .delay) p noTicks;
+    end = getD (d .budget .end) p noTicks;
+    power = getD (d .budget .power) p noPower;
   })
   unfolding PartSaid
   part-given is = rw (← tried, is) (λ st. refl)

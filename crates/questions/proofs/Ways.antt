@@ -35,7 +35,7 @@ pub set-counted : (set n : ℕ) → n ≡ ones set → record { set = set; count
 unfolding countedOf
 set-counted set n is = rw is
 
-pub critical-so : (d : Desk) (l : ℕ) (t : Bool) → t ≡ criticalAt (d .board) (d .budget .start) (d .budget .end) l → t ≡ criticalHeld d l
+pub critical-so : (d : Desk) (l : ℕ) (t : Bool) → t ≡ criticalAt (d .board) (d .budget) l → t ≡ criticalHeld d l
 unfolding criticalHeld
 critical-so d l t is = is
 
@@ -49,6 +49,6 @@ module _ (d : Desk) where
 
   pub whole-none :
       (a : Answer) → not (d .held) ≡ true → a ≡ noBoard →
-      record { answer = a; rule = A; deadline = record { 0 = 0 }; usable = record { 0 = 0 }; parts = 0; links = 0; total = 0 } ≡ wholeAsked d
+      record { answer = a; rule = A; deadline = record { 0 = 0 }; usable = record { 0 = 0 }; parts = 0; links = 0; total = record { 0 = 0 } } ≡ wholeAsked d
   unfolding wholeAsked pick
   whole-none a none e = rw (not-true (d .held) none, e)

@@ -18,7 +18,7 @@ linkNone answer = record { answer = answer; there = false; from = 0; to = 0; cri
 
 -- "A link is critical when the end of its first part equals the start of its second."
 unfoldable pub criticalHeld : Desk → ℕ → Bool
-criticalHeld d l = criticalAt (d .board) (d .budget .start) (d .budget .end) l
+criticalHeld d l = criticalAt (d .board) (d .budget) l
 
 -- link l of the held board; none is there past the last
 unfoldable pub linkTold : Desk → ℕ → LinkAsked

@@ -3,13 +3,14 @@
 use mathlib.Core.Path.{_≡_}
 use mathlib.Core.Bool.{Bool}
 use Prim.Native.Nat.{ℕ}
+use lib.ListN.{getD}
 use Rattle.base.specs.Pick.{pick}
-use Rattle.theory.specs.Sum.{cells}
 use Rattle.refusal.specs.declared.Answer.{Answer}
 use Rattle.refusal.specs.declared.Answer.the-variants.{Done, Refused}
 use Rattle.curve.specs.declared.Power.{Power}
 use Rattle.curve.specs.declared.Power.the-variants as power
 use Rattle.curve.specs.Answers.{powerAtOf}
+use Rattle.curve.specs.Rows.{noTicks, noPower}
 use Rattle.board.specs.declared.Rule.the-variants.{A}
 use Rattle.board.specs.Board.{curveAt, usable}
 use Rattle.budget.specs.declared.Budget.{Budget}
@@ -43,10 +44,10 @@ partRefused answer = record {
 abbrev pub partOf : Budget → ℕ → PartAsked
 partOf b p = record {
   answer = Done;
-  start = record { 0 = cells (b .start) p };
-  delay = record { 0 = cells (b .delay) p };
-  end = record { 0 = cells (b .end) p };
-  power = record { 0 = cells (b .power) p };
+  start = getD (b .start) p noTicks;
+  delay = getD (b .delay) p noTicks;
+  end = getD (b .end) p noTicks;
+  power = getD (b .power) p noPower;
 }
 
 unfoldable pub PartSaid : Desk → ℕ → PartAsked → Type 0
@@ -65,4 +66,4 @@ wholeAsked d =
       links = d .board .links;
       total = d .budget .total;
     })
-    (record { answer = noBoard; rule = A; deadline = record { 0 = 0 }; usable = record { 0 = 0 }; parts = 0; links = 0; total = 0 })
+    (record { answer = noBoard; rule = A; deadline = record { 0 = 0 }; usable = record { 0 = 0 }; parts = 0; links = 0; total = record { 0 = 0 } })

@@ -38,7 +38,7 @@ DownstreamSaid d p r = Said (partTried d p) d coneRefused (ConeGiven (Downstream
 -- ---- "Parent and child sets (document 002)"
 -- a link that is critical in the held budget leads from part p to part q
 abbrev pub CriticalIn : Desk → ℕ → ℕ → Type 0
-CriticalIn d p q = Critical (d .board) (d .budget .start) (d .budget .end) p q
+CriticalIn d p q = Critical (d .board) (d .budget) p q
 
 abbrev pub familyRefused : Answer → FamilyAsked
 familyRefused answer = record { answer = answer; parents = record { set = 0; count = 0 }; children = record { set = 0; count = 0 } }

@@ -1,5 +1,6 @@
 // Questions about a held board. Any desk may be asked and any number asked for: 11 where no board is held, 17 where the board has no such part.
 use board::Rule;
+use budget::Total;
 use curve::Curve;
 use curve::Microwatts;
 use curve::Power;
@@ -58,7 +59,7 @@ pub struct WholeAsked {
     pub usable: Ticks,
     pub parts: usize,
     pub links: usize,
-    pub total: u64,
+    pub total: Total,
 }
 
 // A link by its place among the links; no refusal is listed for a place past the last link, and `there` says that none is there.
@@ -156,9 +157,8 @@ fn kin_held(d: Desk, part: usize) -> Kin
     ensures { λ r. ⌜ KinOf (CriticalIn d) part r ⌝ }
 {
     let b = d.board;
-    let start = d.budget.start;
-    let end = d.budget.end;
-    kin::kin_of(b, start, end, part)
+    let held = d.budget;
+    kin::kin_of(b, held, part)
 }
 
 // Parent and child sets.
@@ -260,10 +260,10 @@ pub fn part(d: Desk, part: usize) -> PartAsked
             let b = d.budget;
             PartAsked {
                 answer: answer,
-                start: Ticks(b.start[part]),
-                delay: Ticks(b.delay[part]),
-                end: Ticks(b.end[part]),
-                power: Microwatts(b.power[part]),
+                start: b.start[part],
+                delay: b.delay[part],
+                end: b.end[part],
+                power: b.power[part],
             }
         }
     }
@@ -281,13 +281,14 @@ pub fn whole(d: Desk) -> WholeAsked
             usable: Ticks(0),
             parts: 0,
             links: 0,
-            total: 0,
+            total: Total(0),
         };
     }
     let b = d.board;
     let rule = b.rule;
     let deadline = b.deadline;
-    let usable = Ticks(board::usable_deadline(b));
+    let usable = board::usable_deadline(b);
+    let total = d.budget.total;
     WholeAsked {
         answer: Answer::Done,
         rule,
@@ -295,7 +296,7 @@ pub fn whole(d: Desk) -> WholeAsked
         usable,
         parts: b.parts,
         links: b.links,
-        total: d.budget.total,
+        total,
     }
 }
 
@@ -317,9 +318,8 @@ fn critical_held(d: Desk, index: usize) -> bool
     ensures { λ r. ⌜ r ≡ criticalHeld d index ⌝ }
 {
     let b = d.board;
-    let start = d.budget.start;
-    let end = d.budget.end;
-    kin::link_is_critical(b, start, end, index)
+    let held = d.budget;
+    kin::link_is_critical(b, held, index)
 }
 
 // Link `index`, in the order in which links are held. No board that a load gave has a link 256.

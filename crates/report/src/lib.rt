@@ -1,6 +1,8 @@
 // Lines that several programs print: an answer, a path, what a budget gives a part. The text goes on a page that is lent (`console`), and
 // what comes back is how far it is filled.
 use console::PAGE;
+use curve::Microwatts;
+use curve::Ticks;
 use refusal::Answer;
 use refusal::Why;
 use slow::Trail;
@@ -37,17 +39,17 @@ pub fn put_path(page: &mut [u8; PAGE], at: usize, path: Trail) -> usize {
 // A part's times and power in a budget, as one line.
 pub struct Row {
     pub part: usize,
-    pub start: u32,
-    pub delay: u32,
-    pub end: u32,
-    pub power: u32,
+    pub start: Ticks,
+    pub delay: Ticks,
+    pub end: Ticks,
+    pub power: Microwatts,
 }
 
 pub fn put_row(page: &mut [u8; PAGE], at: usize, row: Row) -> usize {
     let named = console::number(page, at, b"part ", row.part as u64);
-    let started = console::number(page, named, b" start ", row.start as u64);
-    let delayed = console::number(page, started, b" delay ", row.delay as u64);
-    let ended = console::number(page, delayed, b" end ", row.end as u64);
-    let powered = console::number(page, ended, b" power ", row.power as u64);
+    let started = console::number(page, named, b" start ", row.start.0 as u64);
+    let delayed = console::number(page, started, b" delay ", row.delay.0 as u64);
+    let ended = console::number(page, delayed, b" end ", row.end.0 as u64);
+    let powered = console::number(page, ended, b" power ", row.power.0 as u64);
     console::end_line(page, powered)
 }

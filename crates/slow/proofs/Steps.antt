@@ -10,11 +10,13 @@ use lib.ListN.{getD}
 use borrow.Author.Tests.{lt-ltb, le-ltb, eq-eqb, ne-eqb}
 use Rattle.base.specs.Pick.{pick}
 use Rattle.base.proofs.Cases.{lt-or-le, eq-or-ne, pick-elim}
-use Rattle.theory.specs.Sum.{share, cells}
+use Rattle.theory.specs.Sum.{share}
 use Rattle.theory.specs.Graph.{Graph}
 use Rattle.theory.specs.Budget.{greatest, arrive, Timed}
 use Rattle.theory.proofs.SumLaws.{below-suc, share-eq, share-ne}
 use Rattle.theory.proofs.ArriveLaws.{arrive-ge}
+use Rattle.curve.specs.declared.Ticks.{Ticks}
+use Rattle.curve.specs.Rows.{ticksAt}
 use Rattle.board.specs.declared.Link.{Link}
 use Rattle.board.specs.declared.Board.{Board}
 use Rattle.board.specs.Board.{noLink, linkAt, view, WellFormed, delayOf}
@@ -22,12 +24,12 @@ use Rattle.slow.specs.Slow.{First, LastPart, StepBack}
 use Rattle.slow.specs.Walk.{lastOf, backOf}
 
 -- ---- the last part
-module _ (e : List ℕ) where
-  last-later : (k : ℕ) → cells e (lastOf e k) < cells e k → lastOf e (suc k) ≡ k
+module _ (e : List Ticks) where
+  last-later : (k : ℕ) → ticksAt e (lastOf e k) < ticksAt e k → lastOf e (suc k) ≡ k
   unfolding lastOf pick
   last-later k h = rw (lt-ltb _ _ h)
 
-  last-stays : (k : ℕ) → cells e k ≤ cells e (lastOf e k) → lastOf e (suc k) ≡ lastOf e k
+  last-stays : (k : ℕ) → ticksAt e k ≤ ticksAt e (lastOf e k) → lastOf e (suc k) ≡ lastOf e k
   unfolding lastOf pick
   last-stays k h = rw (le-ltb _ _ h)
 
@@ -40,23 +42,23 @@ module _ (e : List ℕ) where
   unfolding lastOf
   last-lt k = pick-elim (λ i. i ≤ k) _ k (lastOf e k) (omega arith) (last-le k)
 
-  last-greatest : (k q : ℕ) → q < k → cells e q ≤ cells e (lastOf e k)
+  last-greatest : (k q : ℕ) → q < k → ticksAt e q ≤ ticksAt e (lastOf e k)
   last-greatest zero = λ q h. absurd (omega arith)
   last-greatest (suc k) =
       ⊎-elim
-      (λ (l : cells e (lastOf e k) < cells e k). rw (last-later k l) (below-suc (λ q h. omega (arith, last-greatest k q h)) (omega arith)))
-      (λ (l : cells e k ≤ cells e (lastOf e k)). rw (last-stays k l) (below-suc (last-greatest k) l))
-      (lt-or-le (cells e (lastOf e k)) (cells e k))
+      (λ (l : ticksAt e (lastOf e k) < ticksAt e k). rw (last-later k l) (below-suc (λ q h. omega (arith, last-greatest k q h)) (omega arith)))
+      (λ (l : ticksAt e k ≤ ticksAt e (lastOf e k)). rw (last-stays k l) (below-suc (last-greatest k) l))
+      (lt-or-le (ticksAt e (lastOf e k)) (ticksAt e k))
 
-  last-lowest : (k q : ℕ) → q < k → cells e q ≡ cells e (lastOf e k) → lastOf e k ≤ q
+  last-lowest : (k q : ℕ) → q < k → ticksAt e q ≡ ticksAt e (lastOf e k) → lastOf e k ≤ q
   last-lowest zero = λ q h. absurd (omega arith)
   last-lowest (suc k) =
       ⊎-elim
-      (λ (l : cells e (lastOf e k) < cells e k). rw (last-later k l) (below-suc (λ q h same. absurd (omega (arith, last-greatest k q h))) (λ same. omega arith)))
-      (λ (l : cells e k ≤ cells e (lastOf e k)). rw (last-stays k l) (below-suc (last-lowest k) (λ same. last-le k)))
-      (lt-or-le (cells e (lastOf e k)) (cells e k))
+      (λ (l : ticksAt e (lastOf e k) < ticksAt e k). rw (last-later k l) (below-suc (λ q h same. absurd (omega (arith, last-greatest k q h))) (λ same. omega arith)))
+      (λ (l : ticksAt e k ≤ ticksAt e (lastOf e k)). rw (last-stays k l) (below-suc (last-lowest k) (λ same. last-le k)))
+      (lt-or-le (ticksAt e (lastOf e k)) (ticksAt e k))
 
-  pub last-is : (b : Board) → WellFormed b → LastPart (view b) (cells e) (lastOf e (b .parts))
+  pub last-is : (b : Board) → WellFormed b → LastPart (view b) (ticksAt e) (lastOf e (b .parts))
   unfolding view
   last-is b ok = record { here = in-board (b .parts) (ok .parts-from); greatest = last-greatest (b .parts); lowest = last-lowest (b .parts) }
     where
@@ -95,23 +97,23 @@ arrival G e p h =
     (eq-or-ne (G .to (g .at)) p)
 
 -- ---- the steps back
-module _ (link : List Link) (s e : List ℕ) (p : ℕ) where
+module _ (link : List Link) (s e : List Ticks) (p : ℕ) where
   -- the k-th link's part, if it arrives at p's start
   abbrev candidate : ℕ → ℕ
-  candidate k = let l = getD link k noLink in pick (eqb (l .to) p) (pick (eqb (cells e (l .from) + delayOf l) (cells s p)) (l .from) 64) 64
+  candidate k = let l = getD link k noLink in pick (eqb (l .to) p) (pick (eqb (ticksAt e (l .from) + delayOf l) (ticksAt s p)) (l .from) 64) 64
 
   record Awaits (k q : ℕ) : Type 0 where
     pub at : ℕ
     pub here : at < k
     pub from : getD link at noLink .from ≡ q
     pub to : getD link at noLink .to ≡ p
-    pub is : cells e q + delayOf (getD link at noLink) ≡ cells s p
+    pub is : ticksAt e q + delayOf (getD link at noLink) ≡ ticksAt s p
 
   back-suc : (k : ℕ) → backOf link s e (suc k) p ≡ min (backOf link s e k p) (candidate k)
   unfolding backOf
   back-suc k = refl
 
-  candidate-hit : (k : ℕ) → getD link k noLink .to ≡ p → cells e (getD link k noLink .from) + delayOf (getD link k noLink) ≡ cells s p
+  candidate-hit : (k : ℕ) → getD link k noLink .to ≡ p → ticksAt e (getD link k noLink .from) + delayOf (getD link k noLink) ≡ ticksAt s p
       → candidate k ≡ getD link k noLink .from
   unfolding pick
   candidate-hit k to is = rw (eq-eqb _ _ to, eq-eqb _ _ is)
@@ -122,17 +124,17 @@ module _ (link : List Link) (s e : List ℕ) (p : ℕ) where
       ⊎-elim
       (λ (to : getD link k noLink .to ≡ p).
       ⊎-elim
-      (λ (is : cells e (getD link k noLink .from) + delayOf (getD link k noLink) ≡ cells s p).
+      (λ (is : ticksAt e (getD link k noLink .from) + delayOf (getD link k noLink) ≡ ticksAt s p).
       rw (candidate-hit k to is) (record { at = k; here = omega arith; from = refl; to = to; is = is }))
-      (λ (d : cells e (getD link k noLink .from) + delayOf (getD link k noLink) ≡ cells s p → ⊥). absurd (missed (rw (eq-eqb _ _ to, ne-eqb _ _ d))))
-      (eq-or-ne (cells e (getD link k noLink .from) + delayOf (getD link k noLink)) (cells s p)))
+      (λ (d : ticksAt e (getD link k noLink .from) + delayOf (getD link k noLink) ≡ ticksAt s p → ⊥). absurd (missed (rw (eq-eqb _ _ to, ne-eqb _ _ d))))
+      (eq-or-ne (ticksAt e (getD link k noLink .from) + delayOf (getD link k noLink)) (ticksAt s p)))
       (λ (d : getD link k noLink .to ≡ p → ⊥). absurd (missed (rw (ne-eqb _ _ d))))
       (eq-or-ne (getD link k noLink .to) p)
     where
       missed : candidate k ≡ 64 → ⊥
       missed q = omega arith
 
-  back-le : (k l : ℕ) → l < k → getD link l noLink .to ≡ p → cells e (getD link l noLink .from) + delayOf (getD link l noLink) ≡ cells s p
+  back-le : (k l : ℕ) → l < k → getD link l noLink .to ≡ p → ticksAt e (getD link l noLink .from) + delayOf (getD link l noLink) ≡ ticksAt s p
       → backOf link s e k p ≤ getD link l noLink .from
   back-le zero = λ l h. absurd (omega arith)
   back-le (suc k) =
@@ -152,7 +154,7 @@ module _ (link : List Link) (s e : List ℕ) (p : ℕ) where
       rw old (record { at = a .at; here = omega arith; from = a .from; to = a .to; is = a .is }))
       (lt-or-le (candidate k) (backOf link s e k p))
 
-module _ (b : Board) (ok : WellFormed b) (s e : List ℕ) (t : Timed (view b) (view b .fastest) (cells s) (cells e)) where
+module _ (b : Board) (ok : WellFormed b) (s e : List Ticks) (t : Timed (view b) (view b .fastest) (ticksAt s) (ticksAt e)) where
   abbrev back : ℕ → ℕ
   back p = backOf (b .link) s e (b .links) p
 
@@ -162,19 +164,19 @@ module _ (b : Board) (ok : WellFormed b) (s e : List ℕ) (t : Timed (view b) (v
   back-first p h none = record {
     none = λ l k q.
         let f = ok .from-in l k in
-        let starts = arrive-ge (view b) (cells e) l k in
-        let here = ap (arrive (view b) (cells e)) q in
+        let starts = arrive-ge (view b) (ticksAt e) l k in
+        let here = ap (arrive (view b) (ticksAt e)) q in
         let ends = t .ends (linkAt b l .from) f in
-        let a = arrival (view b) (cells e) p (omega (arith, ok .curves (linkAt b l .from) f .fastest-from)) in
+        let a = arrival (view b) (ticksAt e) p (omega (arith, ok .curves (linkAt b l .from) f .fastest-from)) in
         omega (arith, back-le (b .link) s e p (b .links) (a .link) (a .here) (a .to) (a .is ∙ sym (t .starts p h)), ok .from-in (a .link) (a .here), ok .parts-to);
   }
 
-  pub back-step : (p : ℕ) → p < b .parts → back p < 64 → StepBack (view b) (cells e) p (back p)
+  pub back-step : (p : ℕ) → p < b .parts → back p < 64 → StepBack (view b) (ticksAt e) p (back p)
   unfolding view delayOf
   back-step p h some =
       let a = back-is (b .link) s e p (b .links) some in
       record {
         by = record { link = a .at; here = a .here; from = a .from; to = a .to };
-        greatest = λ l k q. omega (arith, a .is, t .starts p h, arrive-ge (view b) (cells e) l k, ap (arrive (view b) (cells e)) q);
+        greatest = λ l k q. omega (arith, a .is, t .starts p h, arrive-ge (view b) (ticksAt e) l k, ap (arrive (view b) (ticksAt e)) q);
         lowest = λ l k q same. back-le (b .link) s e p (b .links) l k q (same ∙ a .is);
       }

@@ -9,17 +9,19 @@ use lib.Dec.{eqb, ltb}
 use lib.ListN.{getD, set}
 use borrow.Author.Tests.{le-leb, lt-leb, eq-eqb, ne-eqb}
 use Rattle.base.specs.Pick.{pick}
+use Rattle.base.specs.Table.{table}
 use Rattle.base.proofs.Cases.{finished, pick-elim}
-use Rattle.theory.specs.Sum.{cells}
+use Rattle.base.proofs.TableLaws.{table-at, table-set}
+use Rattle.curve.specs.declared.Ticks.{Ticks}
+use Rattle.curve.specs.Rows.{ticksAt}
 use Rattle.board.specs.declared.Link.{Link}
 use Rattle.board.specs.Board.{noLink, delayOf}
-use Rattle.times.specs.Times.{table, Joined}
-use Rattle.times.proofs.TableLaws.{table-at, table-set}
+use Rattle.times.specs.Rounds.{InPlaces}
 use Rattle.slow.specs.declared.Trail.{Trail}
 use Rattle.slow.specs.Walk.{lastOf, backOf, backsOf, trailOf, pushedOf, walkOf}
 
 -- ---- last_part
-module _ (e : List ℕ) where
+module _ (e : List Ticks) where
   pub last-none : 0 ≡ lastOf e 0
   unfolding lastOf
   last-none = refl
@@ -33,7 +35,7 @@ module _ (e : List ℕ) where
     pub last-in : k ≤ n → n ≤ 64 → last < 64
     last-in h l = rw is (last-below k (omega arith))
 
-    pub last-more : (r : ℕ) → r ≡ pick (ltb (getD e last 0) (getD e k 0)) k last → r ≡ lastOf e (k + 1)
+    pub last-more : (r : ℕ) → r ≡ pick (ltb (ticksAt e last) (ticksAt e k)) k last → r ≡ lastOf e (k + 1)
     unfolding lastOf
     last-more r new = rw (add-one, ← is) new
 
@@ -56,14 +58,14 @@ module _ (part end wire start : ℕ) where
     waits-not d = rw (ne-eqb (end + wire) start (λ q. d (omega arith)))
 
 -- ---- backs
-pub back-to : (link : List Link) (s e : List ℕ) (k p : ℕ) → backOf link s e k p ≤ 64
+pub back-to : (link : List Link) (s e : List Ticks) (k p : ℕ) → backOf link s e k p ≤ 64
 unfolding backOf
 back-to link s e zero p = omega arith
 back-to link s e (suc k) p = omega (arith, back-to link s e k p)
 
-module _ (link : List Link) (s e : List ℕ) (k : ℕ) where
+module _ (link : List Link) (s e : List Ticks) (k : ℕ) where
   back-here : min (backOf link s e k (getD link k noLink .to))
-      (pick (eqb (cells e (getD link k noLink .from) + delayOf (getD link k noLink)) (cells s (getD link k noLink .to))) (getD link k noLink .from) 64)
+      (pick (eqb (ticksAt e (getD link k noLink .from) + delayOf (getD link k noLink)) (ticksAt s (getD link k noLink .to))) (getD link k noLink .from) 64)
       ≡ backOf link s e (suc k) (getD link k noLink .to)
   unfolding backOf pick
   back-here = rw (eq-eqb (getD link k noLink .to) (getD link k noLink .to) refl)
@@ -72,15 +74,15 @@ module _ (link : List Link) (s e : List ℕ) (k : ℕ) where
   unfolding backOf pick
   back-there j d = rw (ne-eqb (getD link k noLink .to) j d) (omega (arith, back-to link s e k j))
 
-module _ (link : List Link) (s e : List ℕ) where
+module _ (link : List Link) (s e : List Ticks) where
   pub backs-none : (back : List ℕ) → back ≡ table 64 (λ p. 64) → back ≡ backsOf link s e 0
   unfolding backsOf backOf
   backs-none back is = is
 
-  pub backs-more : (n k : ℕ) → k < n → (back : List ℕ) (w a v : ℕ) → w ≡ delayOf (getD link k noLink)
-      → a ≡ pick (eqb (getD e (getD link k noLink .from % 64) 0 + w) (getD s (getD link k noLink .to % 64) 0)) (getD link k noLink .from % 64) 64
+  pub backs-more : (n k : ℕ) → k < n → (back : List ℕ) (w : Ticks) (a v : ℕ) → w .0 ≡ delayOf (getD link k noLink)
+      → a ≡ pick (eqb (ticksAt e (getD link k noLink .from % 64) + w .0) (ticksAt s (getD link k noLink .to % 64))) (getD link k noLink .from % 64) 64
       → v ≡ min (getD back (getD link k noLink .to % 64) 0) a
-      → (Joined link n e → back ≡ backsOf link s e k) → Joined link n e → set back (getD link k noLink .to % 64) v ≡ backsOf link s e (k + 1)
+      → (InPlaces link n → back ≡ backsOf link s e k) → InPlaces link n → set back (getD link k noLink .to % 64) v ≡ backsOf link s e (k + 1)
   unfolding backsOf
   backs-more n k h back w a v isw isa isv before ok =
       let t = getD link k noLink .to in
@@ -88,14 +90,14 @@ module _ (link : List Link) (s e : List ℕ) where
       let is = before ok in
       let t-is : t % 64 ≡ t = omega (arith, ok .to-in k h) in
       let f-is : f % 64 ≡ f = omega (arith, ok .from-in k h) in
-      let a-is : a ≡ pick (eqb (cells e f + delayOf (getD link k noLink)) (cells s t)) f 64 = isa ∙ rw (t-is, f-is, isw) in
+      let a-is : a ≡ pick (eqb (ticksAt e f + delayOf (getD link k noLink)) (ticksAt s t)) f 64 = isa ∙ rw (t-is, f-is, isw) in
       let v-is : v ≡ min (getD back t 0) a = isv ∙ rw t-is in
       rw (add-one, t-is, is)
-      (table-set 64 (backOf link s e k) (backOf link s e (suc k)) t v (ok .to-in k h)
-      (v-is ∙ rw (is, table-at 64 (backOf link s e k) t (ok .to-in k h)) (rw a-is (back-here link s e k)))
+      (table-set 0 64 (backOf link s e k) (backOf link s e (suc k)) t v (ok .to-in k h)
+      (v-is ∙ rw (is, table-at 0 64 (backOf link s e k) t (ok .to-in k h)) (rw a-is (back-here link s e k)))
       (λ j l d. back-there link s e k j (λ q. d (sym q))))
 
-  pub backs-done : (back : List ℕ) (k n : ℕ) → k ≤ n → n ≤ k → (Joined link n e → back ≡ backsOf link s e k) → Joined link n e → back ≡ backsOf link s e n
+  pub backs-done : (back : List ℕ) (k n : ℕ) → k ≤ n → n ≤ k → (InPlaces link n → back ≡ backsOf link s e k) → InPlaces link n → back ≡ backsOf link s e n
   backs-done back k n h l is ok = finished (backsOf link s e) h l (is ok)
 
 -- ---- pushed, walk

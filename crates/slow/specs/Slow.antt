@@ -7,10 +7,11 @@ use mathlib.Core.Bool.{true, false}
 use mathlib.Core.List.{List, [], _∷_, _++_}
 use Prim.Native.Nat.{ℕ, _+_, _-_, _≤_, _<_}
 use lib.ListN.{length, replicate}
-use Rattle.theory.specs.Graph.{Graph, Ranked}
+use Rattle.theory.specs.Graph.{Graph}
 use Rattle.theory.specs.Budget.{Timed}
 use Rattle.board.specs.declared.Board.{Board}
-use Rattle.board.specs.Board.{usable, view, WellFormed}
+use Rattle.board.specs.Board.{usable, view}
+pub use Rattle.times.specs.Times.{Loopless}
 use Rattle.slow.specs.declared.ShownPath.{ShownPath}
 
 module _ (G : Graph) where
@@ -50,11 +51,6 @@ module _ (G : Graph) where
     pub data Walked : ℕ → List ℕ → Type 0 where
       first : {p : ℕ} → First p → Walked p (p ∷ [])
       next : {p q : ℕ} {before : List ℕ} → StepBack p q → Walked q before → Walked p (before ++ (p ∷ []))
-
--- a board that is timed: well formed, with no loop
-pub record Loopless (b : Board) : Type 0 where
-  pub formed : WellFormed b
-  pub ranked : Ranked (view b) 65
 
 -- parts end at e, all at fastest
 pub record FastestEnds (b : Board) (e : ℕ → ℕ) : Type 0 where

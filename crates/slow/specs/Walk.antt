@@ -5,25 +5,27 @@ use Prim.Native.Nat.{ℕ, zero, suc, min, _+_, _-_}
 use lib.Dec.{eqb, ltb, leb}
 use lib.ListN.{length, getD, set, replicate}
 use Rattle.base.specs.Pick.{pick}
+use Rattle.base.specs.Table.{table}
 use Rattle.theory.specs.Sum.{cells}
+use Rattle.curve.specs.declared.Ticks.{Ticks}
+use Rattle.curve.specs.Rows.{ticksAt}
 use Rattle.board.specs.declared.Link.{Link}
 use Rattle.board.specs.Board.{noLink, delayOf}
-use Rattle.times.specs.Times.{table}
 use Rattle.slow.specs.declared.Trail.{Trail}
 
 -- the lowest-numbered of the first n parts whose end is greatest
-unfoldable pub lastOf : List ℕ → ℕ → ℕ
+unfoldable pub lastOf : List Ticks → ℕ → ℕ
 lastOf e zero = 0
-lastOf e (suc k) = pick (ltb (cells e (lastOf e k)) (cells e k)) k (lastOf e k)
+lastOf e (suc k) = pick (ltb (ticksAt e (lastOf e k)) (ticksAt e k)) k (lastOf e k)
 
 -- the lowest-numbered part that arrives at p's start by one of the first n links, or 64
-unfoldable pub backOf : List Link → List ℕ → List ℕ → ℕ → ℕ → ℕ
+unfoldable pub backOf : List Link → List Ticks → List Ticks → ℕ → ℕ → ℕ
 backOf link s e zero p = 64
 backOf link s e (suc k) p =
     let l = getD link k noLink in
-    min (backOf link s e k p) (pick (eqb (l .to) p) (pick (eqb (cells e (l .from) + delayOf l) (cells s p)) (l .from) 64) 64)
+    min (backOf link s e k p) (pick (eqb (l .to) p) (pick (eqb (ticksAt e (l .from) + delayOf l) (ticksAt s p)) (l .from) 64) 64)
 
-unfoldable pub backsOf : List Link → List ℕ → List ℕ → ℕ → List ℕ
+unfoldable pub backsOf : List Link → List Ticks → List Ticks → ℕ → List ℕ
 backsOf link s e n = table 64 (backOf link s e n)
 
 -- a path's parts, and 0 past them

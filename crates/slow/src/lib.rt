@@ -1,17 +1,21 @@
 // Whether all parts at their fastest keep the usable deadline, and the path to be shown where they do not.
+use base::lesser;
 use board::Board;
 use board::Link;
 use board::link_delay;
 use board::usable_deadline;
+use curve::Ticks;
 use times::fastest_delays;
 use times::times_of;
 ghost use mathlib.Core.Path.{_≡_};
-ghost use Prim.Native.Nat.{_+_, _≤_, min};
+ghost use Prim.Native.Nat.{_+_, _≤_};
 ghost use mathlib.Core.List.{[]};
 ghost use lib.Dec.{eqb, ltb};
 ghost use Rattle.base.specs.Pick.{pick};
-ghost use Rattle.times.specs.Times.{table, Joined};
-ghost use Rattle.slow.specs.Slow.{Loopless, SlowOf};
+ghost use Rattle.base.specs.Table.{table};
+ghost use Rattle.times.specs.Times.{Loopless};
+ghost use Rattle.times.specs.Rounds.{InPlaces};
+ghost use Rattle.slow.specs.Slow.{SlowOf};
 ghost use Rattle.slow.specs.Walk.{lastOf, backsOf, pushedOf, walkOf, trailOf};
 
 // Whether a path is too slow; then its ticks and its parts from first to last, the first `count` of `path`. The rest is 0.
@@ -28,12 +32,6 @@ pub struct Trail {
     pub parts: [usize; 64],
 }
 
-fn lesser(a: usize, b: usize) -> usize
-    ensures { λ r. ⌜ r ≡ min a b ⌝ }
-{
-    if a < b { a } else { b }
-}
-
 fn all(value: usize) -> [usize; 64]
     ensures { λ r. ⌜ r ≡ table 64 (λ p. value) ⌝ }
 {
@@ -41,14 +39,14 @@ fn all(value: usize) -> [usize; 64]
 }
 
 // Of two parts, which end at `first` and `second`, the one that ends later, or the first.
-fn later(a: usize, first: u32, b: usize, second: u32) -> usize
-    ensures { λ r. ⌜ r ≡ pick (ltb first second) b a ⌝ }
+fn later(a: usize, first: Ticks, b: usize, second: Ticks) -> usize
+    ensures { λ r. ⌜ r ≡ pick (ltb (first .0) (second .0)) b a ⌝ }
 {
-    if first < second { b } else { a }
+    if first.0 < second.0 { b } else { a }
 }
 
 // The lowest-numbered of the first `n` parts whose end is greatest.
-fn last_part(e: [u32; 64], n: usize) -> usize
+fn last_part(e: [Ticks; 64], n: usize) -> usize
     requires { ⌜ n ≤ 64 ⌝ }
     ensures { λ r. ⌜ r ≡ lastOf e n ⌝ }
 {
@@ -62,20 +60,20 @@ fn last_part(e: [u32; 64], n: usize) -> usize
 }
 
 // A part that a start waits for, or 64 where it does not. The difference is compared with the link's ticks, so no sum can pass its type.
-fn awaited(part: usize, end: u32, wire: u32, start: u32) -> usize
-    ensures { λ r. ⌜ r ≡ pick (eqb (end + wire) start) part 64 ⌝ }
+fn awaited(part: usize, end: Ticks, delay: Ticks, start: Ticks) -> usize
+    ensures { λ r. ⌜ r ≡ pick (eqb (end .0 + delay .0) (start .0)) part 64 ⌝ }
 {
-    if start < end {
+    if start.0 < end.0 {
         return 64;
     }
-    if start - end == wire { part } else { 64 }
+    if start.0 - end.0 == delay.0 { part } else { 64 }
 }
 
 // For each part the lowest-numbered one linked to it that arrives at its start, or 64 where there is none. A part's number is below 64, and the
 // remainder keeps any other there.
-fn backs(link: [Link; 256], n: usize, s: [u32; 64], e: [u32; 64]) -> [usize; 64]
+fn backs(link: [Link; 256], n: usize, s: [Ticks; 64], e: [Ticks; 64]) -> [usize; 64]
     requires { ⌜ n ≤ 256 ⌝ }
-    ensures { λ r. ⌜ (Joined link n e → r ≡ backsOf link s e n) ⌝ }
+    ensures { λ r. ⌜ (InPlaces link n → r ≡ backsOf link s e n) ⌝ }
 {
     let mut back = all(64);
     let mut k: usize = 0;
@@ -136,9 +134,9 @@ pub fn slow_path(b: Board) -> ShownPath
     let t = times_of(b, d);
     let e = t.end;
     let last = last_part(e, parts);
-    let ticks = e[last];
+    let ticks = e[last].0;
     let limit = usable_deadline(b);
-    if ticks <= limit {
+    if ticks <= limit.0 {
         let none = all(0);
         return ShownPath {
             slow: false,

@@ -7,8 +7,10 @@ use mathlib.Core.List.{List}
 use Prim.Native.Nat.{ℕ, _+_, _≤_, _<_}
 use lib.ListN.{length}
 use Rattle.theory.specs.Sum.{cells}
+use Rattle.curve.specs.declared.Ticks.{Ticks}
+use Rattle.curve.specs.Rows.{ticksAt}
 use Rattle.board.specs.declared.Board.{Board}
-use Rattle.board.specs.Board.{usable}
+use Rattle.board.specs.Board.{view, usable}
 use Rattle.times.specs.declared.Schedule.{Schedule}
 use Rattle.times.specs.Times.{slowestsOf, TimesOf}
 use Rattle.nets.specs.Layout.{LATE}
@@ -19,23 +21,23 @@ use Rattle.solver.specs.Solve.{Solvable}
 
 -- ---- times to begin at
 -- the first k parts' times stand at their nodes, and `most` is no less than `due` and their ends, and no more than it must be
-pub record Placing (start end : List ℕ) (due k : ℕ) (t : List ℕ) (most : ℕ) : Type 0 where
-  pub starts : (p : ℕ) → p < k → cells t p ≡ cells start p
-  pub ends : (p : ℕ) → p < k → cells t (64 + p) ≡ cells end p
-  pub late : (p : ℕ) → p < k → cells end p ≤ most
+pub record Placing (start end : List Ticks) (due k : ℕ) (t : List ℕ) (most : ℕ) : Type 0 where
+  pub starts : (p : ℕ) → p < k → cells t p ≡ ticksAt start p
+  pub ends : (p : ℕ) → p < k → cells t (64 + p) ≡ ticksAt end p
+  pub late : (p : ℕ) → p < k → ticksAt end p ≤ most
   pub due-late : due ≤ most
-  pub early : (m : ℕ) → due ≤ m → ((p : ℕ) → p < 64 → cells end p ≤ m) → most ≤ m
+  pub early : (m : ℕ) → due ≤ m → ((p : ℕ) → p < 64 → ticksAt end p ≤ m) → most ≤ m
   pub room : length t ≡ 130
 
 -- all of them, with the source at 0 and the sink at the greatest end, or at `due` if that is later
-pub record Begun (start end : List ℕ) (due : ℕ) (t : List ℕ) : Type 0 where
+pub record Begun (start end : List Ticks) (due : ℕ) (t : List ℕ) : Type 0 where
   pub placed : Placing start end due 64 t (cells t 129)
   pub source : cells t 128 ≡ 0
 
 -- those of all parts at their slowest
 pub record Slowest (b : Board) (due : ℕ) (t : List ℕ) : Type 0 where
   pub schedule : Schedule
-  pub timed : TimesOf b (slowestsOf b) schedule
+  pub timed : TimesOf (view b) (slowestsOf b) schedule
   pub begun : Begun (schedule .start) (schedule .end) due t
 
 -- the first n times of nodes stand on the net sheet, which is as it was but for times

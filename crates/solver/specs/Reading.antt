@@ -7,15 +7,16 @@ use Prim.Native.Nat.{ℕ, _+_, _≤_, _<_}
 use lib.ListN.{length}
 use Rattle.theory.specs.Sum.{cells}
 use Rattle.theory.specs.Budget.{Budget}
+use Rattle.curve.specs.declared.Ticks.{Ticks}
+use Rattle.curve.specs.Rows.{ticksRow}
 use Rattle.board.specs.declared.Board.{Board}
 use Rattle.board.specs.Board.{WellFormed, view, usable}
-use Rattle.times.specs.Times.{firsts}
 use Rattle.nets.specs.Wired.{timesOf}
 use Rattle.nets.specs.Sheet.{loadIn}
 
 -- the times of the first n nodes from node `first` on
-unfoldable pub nodesFrom : List ℕ → ℕ → ℕ → List ℕ
-nodesFrom t first n = firsts n (λ p. cells t (first + p))
+unfoldable pub nodesFrom : List ℕ → ℕ → ℕ → List Ticks
+nodesFrom t first n = ticksRow n (λ p. cells t (first + p))
 
 -- the times of nodes are a budget of the board
 pub record Budgeted (b : Board) (t : List ℕ) : Type 0 where

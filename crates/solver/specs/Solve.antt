@@ -17,15 +17,12 @@ use Rattle.slow.specs.declared.Trail.{Trail}
 use Rattle.slow.specs.Walk.{trailOf}
 use Rattle.budget.specs.declared.Budget.{Budget}
 use Rattle.budget.specs.Budget.{Holds}
+pub use Rattle.budget.specs.Made.{noBudget}
 use Rattle.budget.specs.Reason.{Reason}
 use Rattle.solver.specs.declared.Solved.{Solved}
 use Rattle.solver.specs.Verdict.{Verdict}
 
 -- ---- what is promised
--- no budget
-unfoldable pub noBudget : Budget
-noBudget = record { start = replicate 64 0; delay = replicate 64 0; end = replicate 64 0; power = replicate 64 0; total = 0 }
-
 -- no load on any part, link, entry or exit
 unfoldable pub noLoads : List ℕ
 noLoads = replicate 448 0

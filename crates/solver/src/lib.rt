@@ -18,7 +18,7 @@ use slow::Trail;
 ghost use mathlib.Core.Path.{_≡_};
 ghost use Rattle.refusal.specs.declared.Answer.the-variants.{Refused};
 ghost use Rattle.board.specs.Board.{WellFormed};
-ghost use Rattle.solver.specs.Solve.{noBudget, refusedOf, Solvable, Solves};
+ghost use Rattle.solver.specs.Solve.{refusedOf, Solvable, Solves};
 ghost use Rattle.solver.specs.Finding.{Answers};
 
 // What a board comes to. The path is empty except at refusal 10. The flow, the loads of parts, links, entries and exits, shows why no budget is
@@ -78,30 +78,17 @@ fn solve_possible(b: Board, advice: Advice) -> Solved
     let due = board::usable_deadline(b);
     let mut net = [0u32; 2048];
     let mut work = [0u32; 968];
-    wiring::wire(b, due, &mut net);
-    finding::find(b, due, advice, &mut net, &mut work);
+    wiring::wire(b, due.0, &mut net);
+    finding::find(b, due.0, advice, &mut net, &mut work);
     answer_of(b, &work)
 }
 
 // ---- any board
-fn no_budget() -> Budget
-    ensures { λ r. ⌜ r ≡ noBudget ⌝ }
-{
-    let none = [0u32; 64];
-    Budget {
-        start: none,
-        delay: none,
-        end: none,
-        power: none,
-        total: 0,
-    }
-}
-
 // A board that is refused: zeros.
 fn refused(why: Why, place: usize, path: Trail) -> Solved
     ensures { λ r. ⌜ r ≡ refusedOf (Refused why place) path ⌝ }
 {
-    let budget = no_budget();
+    let budget = budget::no_budget();
     let flow = reading::no_loads();
     Solved {
         answer: Answer::Refused { why, place },

@@ -1,6 +1,8 @@
 // The room of the answer: the times and the loads of the work sheet, read back as a budget and a flow.
 use board::Board;
 use budget::Budget;
+use curve::Ticks;
+use curve::no_ticks;
 ghost use mathlib.Core.Path.{_≡_};
 ghost use Prim.Native.Nat.{_≤_};
 ghost use Rattle.theory.specs.Sum.{cells};
@@ -12,15 +14,15 @@ ghost use Rattle.solver.specs.Solve.{noLoads};
 ghost use Rattle.solver.specs.Reading.{nodesFrom, Budgeted, FlowIn};
 
 // The times of `n` nodes from node `first` on.
-fn nodes_from(work: &[u32; 968], first: usize, n: usize) -> [u32; 64]
+fn nodes_from(work: &[u32; 968], first: usize, n: usize) -> [Ticks; 64]
     requires { ⌜ first ≤ 64 ⌝ }
     requires { ⌜ n ≤ 64 ⌝ }
     ensures { λ r. ⌜ r ≡ nodesFrom (timeIn (now (work .entry))) first n ⌝ }
 {
-    let mut times = [0u32; 64];
+    let mut times = no_ticks();
     let mut k: usize = 0;
     while k < n {
-        times[k] = work[nets::TIME + (first + k)];
+        times[k] = Ticks(work[nets::TIME + (first + k)]);
         k = k + 1;
     }
     times

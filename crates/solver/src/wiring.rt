@@ -40,13 +40,8 @@ fn lay_links(b: Board, net: &mut [u32; 2048])
     let mut l: usize = 0;
     while l < links {
         let link = b.link[l];
-        put(
-            net,
-            parts + l,
-            64 + link.from,
-            link.to,
-            board::link_delay(link),
-        );
+        let delay = board::link_delay(link);
+        put(net, parts + l, 64 + link.from, link.to, delay.0);
         l = l + 1;
     }
 }

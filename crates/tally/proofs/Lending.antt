@@ -128,49 +128,49 @@ module _ {M : Type 1} (𝓤 : URA M) (H : Heap 𝓤) (A : Atoms 𝓤) (W : Given
       came = came;
     }
 
--- and one that takes the number of a rule besides
+-- and one that ruled-takes the number of a rule besides
 module _ {M : Type 1} (𝓤 : URA M) (H : Heap 𝓤) (A : Atoms 𝓤) (W : Given 𝓤 H A) (C : Calls 𝓤 H) (#f : Name) (R : RattleType) (tally : R .Denot → Tally) (Said : Desk → ℕ → List ℕ → Tally → R .Denot → Type 0) (Left : Desk → ℕ → List ℕ → Tally → R .Denot → Tally → Type 0)
     (said : (d : Desk) (n : ℕ) (s : List ℕ) (h : Tally) (r : R .Denot) (h′ : Tally) → Left d n s h r h′ → Said d n s h r) (left : (d : Desk) (n : ℕ) (s : List ℕ) (h : Tally) (r : R .Denot) (h′ : Tally) → Left d n s h r h′ → h′ ≡ tally r) where
   module _ (κ : Lft) (q : Share) (s : RefT (List ℕ)) (b : ℕ) (d : Desk) (n : ℕ) (h : Tally) (w : Val) (isD : IsD d w) (small : n < 2 ^ 32) where
-    abbrev arg : GName → Desk × (ℕ × (RefT (List ℕ) × (RefT Tally × Unit {0})))
-    arg γ = (d, (n, (s, (record { ptr = (b, 0); name = γ; now = h }, tt))))
+    abbrev ruled-arg : GName → Desk × (ℕ × (RefT (List ℕ) × (RefT Tally × Unit {0})))
+    ruled-arg γ = (d, (n, (s, (record { ptr = (b, 0); name = γ; now = h }, tt))))
 
-    abbrev to-f : ℕ → GName → RuledLent 𝓤 R H A Left .Ghost
-    to-f α γ = (((κ, (α ∷ [], tt)), (q, (fullShare, tt)), tt, arg γ, (w ∷ [], (vint w32 n ∷ [], (sv s ∷ [], (vptr b 0 ∷ [], tt))))), tt)
+    abbrev to-ruled : ℕ → GName → RuledLent 𝓤 R H A Left .Ghost
+    to-ruled α γ = (((κ, (α ∷ [], tt)), (q, (fullShare, tt)), tt, ruled-arg γ, (w ∷ [], (vint w32 n ∷ [], (sv s ∷ [], (vptr b 0 ∷ [], tt))))), tt)
 
-    takes : (α : ℕ) (γ : GName) → ent 𝓤 (sep 𝓤 (A .lft κ q) (sep 𝓤 (A .lft (α ∷ []) fullShare) (sep 𝓤 (sem 𝓤 H A (OwnS κ s)) (sem 𝓤 H A (OwnT b α γ h))))) (RuledLent 𝓤 R H A Left .pre (to-f α γ))
-    takes α γ =
+    ruled-takes : (α : ℕ) (γ : GName) → ent 𝓤 (sep 𝓤 (A .lft κ q) (sep 𝓤 (A .lft (α ∷ []) fullShare) (sep 𝓤 (sem 𝓤 H A (OwnS κ s)) (sem 𝓤 H A (OwnT b α γ h))))) (RuledLent 𝓤 R H A Left .pre (to-ruled α γ))
+    ruled-takes α γ =
         qed W (‵ (flft κ q) ∷ ‵ (flft (α ∷ []) fullShare) ∷ ‵ (OwnS κ s) ∷ ‵ (OwnT b α γ h) ∷ []) ∵ nothing ! $ move ! (2 ∷ 0 ∷ []) $ join ! $ move ! (1 ∷ 0 ∷ []) $ join ! $
         move ! (2 ∷ []) $ nothing ! $ move ! (1 ∷ 0 ∷ []) $ fjoin ! $ move ! (2 ∷ 0 ∷ []) $ fjoin ! $
         owned ! u32 (Is u32) (uint-makes 𝓤 H A W w32) n _ (refl, small) $ fjoin ! $ owned ! D.the-row (Is D.the-row) ((LL.makes D.the-type D′.the-plain) 𝓤 H A) d _ isD $ fjoin ! $ move ! (1 ∷ 0 ∷ []) $ join ! $ frame ! $ done !
 
     -- the contract's clause, with the tally's last value
-    told : (α : ℕ) (γ : GName) (r : R .Denot)
-        → ent 𝓤 (ensured 𝓤 H A (ruledLentEnded R) (ruledLentClauses 𝓤 R Left) (κ, (α ∷ [], tt)) (arg γ) tt r) (guard 𝓤 (Said d n (now s) h r) (A .res γ (T.the-row .coded .code (tally r))))
-    told α γ r = exE 𝓤 _ (λ ws.
-        qed W (‵ (lasts (ruledLentEnded R) (κ, (α ∷ [], tt)) (arg γ) ws) ∷ raw (fact 𝓤 (Left d n (now s) h r (ws .1 .1 .1 .0))) ∷ []) ∵ move ! (1 ∷ []) $ heard ! (Left d n (now s) h r (ws .1 .1 .1 .0)) (λ e.
+    ruled-told : (α : ℕ) (γ : GName) (r : R .Denot)
+        → ent 𝓤 (ensured 𝓤 H A (ruledLentEnded R) (ruledLentClauses 𝓤 R Left) (κ, (α ∷ [], tt)) (ruled-arg γ) tt r) (guard 𝓤 (Said d n (now s) h r) (A .res γ (T.the-row .coded .code (tally r))))
+    ruled-told α γ r = exE 𝓤 _ (λ ws.
+        qed W (‵ (lasts (ruledLentEnded R) (κ, (α ∷ [], tt)) (ruled-arg γ) ws) ∷ raw (fact 𝓤 (Left d n (now s) h r (ws .1 .1 .1 .0))) ∷ []) ∵ move ! (1 ∷ []) $ heard ! (Left d n (now s) h r (ws .1 .1 .1 .0)) (λ e.
         check ! (said d n (now s) h r _ e) $ fsplit ! $ drop ! $ fsplit ! $ drop ! $ fsplit ! $ drop ! $ fsplit ! $
         rewrite ! 0 (λ (y : Tally). ‵ (fres γ (T.the-row .coded .code y))) (left d n (now s) h r _ e) refl $ keep ! (0 ∷ []) $ done !))
 
-    abbrev Came : R .Denot → Val → Type 0
-    Came r v = Said d n (now s) h r × Is R r (v ∷ [])
+    abbrev RuledCame : R .Denot → Val → Type 0
+    RuledCame r v = Said d n (now s) h r × Is R r (v ∷ [])
 
-    abbrev Back : ℕ → GName → Val → R .Denot → SProp 𝓤
-    Back α γ v r = guard 𝓤 (Came r v) (sep 𝓤 (A .lft κ q) (sep 𝓤 (A .lft (α ∷ []) fullShare) (A .res γ (T.the-row .coded .code (tally r)))))
+    abbrev RuledBack : ℕ → GName → Val → R .Denot → SProp 𝓤
+    RuledBack α γ v r = guard 𝓤 (RuledCame r v) (sep 𝓤 (A .lft κ q) (sep 𝓤 (A .lft (α ∷ []) fullShare) (A .res γ (T.the-row .coded .code (tally r)))))
 
-    came : (α : ℕ) (γ : GName) (v : Val) → ent 𝓤 (RuledLent 𝓤 R H A Left .post (to-f α γ) v) (H .⇛ (ex 𝓤 (Back α γ v)))
-    came α γ v =
-        qed W (raw (RuledLent 𝓤 R H A Left .post (to-f α γ) v) ∷ []) ∵ updating ! $
-        use1 W (later (some (λ (r : R .Denot). ((‵ (flft κ q) ⊛ ‵ (flft (α ∷ []) fullShare) ⊛ ‵ ftrue) ⊛ ‵ (R .own r (v ∷ []))) ⊛ raw (ensured 𝓤 H A (ruledLentEnded R) (ruledLentClauses 𝓤 R Left) (κ, (α ∷ [], tt)) (arg γ) tt r)))) (id⊢ 𝓤 _) $
+    ruled-came : (α : ℕ) (γ : GName) (v : Val) → ent 𝓤 (RuledLent 𝓤 R H A Left .post (to-ruled α γ) v) (H .⇛ (ex 𝓤 (RuledBack α γ v)))
+    ruled-came α γ v =
+        qed W (raw (RuledLent 𝓤 R H A Left .post (to-ruled α γ) v) ∷ []) ∵ updating ! $
+        use1 W (later (some (λ (r : R .Denot). ((‵ (flft κ q) ⊛ ‵ (flft (α ∷ []) fullShare) ⊛ ‵ ftrue) ⊛ ‵ (R .own r (v ∷ []))) ⊛ raw (ensured 𝓤 H A (ruledLentEnded R) (ruledLentClauses 𝓤 R Left) (κ, (α ∷ [], tt)) (ruled-arg γ) tt r)))) (id⊢ 𝓤 _) $
         await ! tt $ pick ! (λ r. split ! $ move ! (1 ∷ []) $
-        use1 W (given (Said d n (now s) h r) (‵ (fres γ (T.the-row .coded .code (tally r))))) (told α γ r) $ learn ! (λ e. move ! (1 ∷ []) $ split ! $ move ! (1 ∷ []) $
-        facts ! R (Is R) (shows 𝓤 H A R) r (v ∷ []) (λ is. at-once ! $ show ! (Back α γ v) r $ check ! (e, is) $ split ! $ move ! (1 ∷ []) $ split ! $ keep ! (2 ∷ 0 ∷ 3 ∷ []) $ done !)))
+        use1 W (given (Said d n (now s) h r) (‵ (fres γ (T.the-row .coded .code (tally r))))) (ruled-told α γ r) $ learn ! (λ e. move ! (1 ∷ []) $ split ! $ move ! (1 ∷ []) $
+        facts ! R (Is R) (shows 𝓤 H A R) r (v ∷ []) (λ is. at-once ! $ show ! (RuledBack α γ v) r $ check ! (e, is) $ split ! $ move ! (1 ∷ []) $ split ! $ keep ! (2 ∷ 0 ∷ 3 ∷ []) $ done !)))
 
-    pub ruled-callee : Triple 𝓤 (C #f) (RuledLent 𝓤 R H A Left) → Callee 𝓤 H A C #f κ q s b h (w ∷ vint w32 n ∷ sv s ∷ vptr b 0 ∷ []) tally Came
+    pub ruled-callee : Triple 𝓤 (C #f) (RuledLent 𝓤 R H A Left) → Callee 𝓤 H A C #f κ q s b h (w ∷ vint w32 n ∷ sv s ∷ vptr b 0 ∷ []) tally RuledCame
     ruled-callee known = record {
-      Pre = λ α γ. RuledLent 𝓤 R H A Left .pre (to-f α γ);
-      Gives = λ α γ. RuledLent 𝓤 R H A Left .post (to-f α γ);
-      takes = takes;
-      goes = λ α γ. known (to-f α γ);
-      came = came;
+      Pre = λ α γ. RuledLent 𝓤 R H A Left .pre (to-ruled α γ);
+      Gives = λ α γ. RuledLent 𝓤 R H A Left .post (to-ruled α γ);
+      takes = ruled-takes;
+      goes = λ α γ. known (to-ruled α γ);
+      came = ruled-came;
     }

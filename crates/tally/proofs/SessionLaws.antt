@@ -18,7 +18,7 @@ use Rattle.desk.specs.Held.{Standing}
 use Rattle.desk.specs.Held as held
 use Rattle.desk.specs.Load.{noTally}
 use Rattle.desk.specs.Order.{changedOf, triedOf, orderRefused, OrderJudged, OrderTried, OrderParsed, OrderSaid}
-use Rattle.desk.specs.Order as order
+use Rattle.desk.proofs.Tried.{never}
 use Rattle.demands.specs.Same.{SameDesk, SameOrdered}
 use Rattle.demands.proofs.Once.{same-desk, load-once, order-once}
 use Rattle.demands.proofs.ReachedLaws.{load-standing, order-standing}
@@ -57,19 +57,51 @@ module _ (d d′ : Desk) (alike : SameDesk d d′) (t : Tally) (r′ : Ordered) 
     tally = sym (ap (λ (x : Ordered). x .tally) is);
   }
 
-  judged-alike : (b : Board) (took : ℕ) → OrderJudged b d′ t took r′ → Alike (OrderJudged b d t took) r′
-  judged-alike b took (order.refused {why} {place} {path} v is) = record {
-    other = orderRefused why place took path d t;
-    is = order.refused v refl;
-    same = refused-alike why place took path is;
+  judged-alike : (b : Board) (took : ℕ) (a : Answer) → r′ .answer ≡ a → OrderJudged b d′ t took r′ → Alike (OrderJudged b d t took) r′
+  judged-alike b took (Refused why place) e j = record {
+    other = record { answer = r′ .answer; took = r′ .took; path = r′ .path; desk = d; tally = r′ .tally };
+    is = record {
+      judged = record {
+        shown = j .judged .shown;
+        verdict = j .judged .verdict;
+        listed = j .judged .listed;
+        stays = λ _ _ _. refl;
+        board = λ done. never (sym e ∙ done);
+        holding = λ done. never (sym e ∙ done);
+      };
+      took-is = j .took-is;
+      tally = j .tally;
+    };
+    same = record {
+      answer = refl;
+      took = refl;
+      path = refl;
+      desk = subst (λ (x : Desk). SameDesk d x) (sym (j .judged .stays why place e)) alike;
+      tally = refl;
+    };
   }
-  judged-alike b took (order.made v a k p bo h ta) = record { other = r′; is = order.made v a k p bo h ta; same = same-self r′ }
+  judged-alike b took Done e j = record {
+    other = r′;
+    is = record {
+      judged = record {
+        shown = j .judged .shown;
+        verdict = j .judged .verdict;
+        listed = j .judged .listed;
+        stays = λ why place refused. never (sym refused ∙ e);
+        board = j .judged .board;
+        holding = j .judged .holding;
+      };
+      took-is = j .took-is;
+      tally = j .tally;
+    };
+    same = same-self r′;
+  }
 
   module _ (o : Order) (took : ℕ) where
     tried-alike : (a : Answer) → OrderTried a d′ t o took r′ → Alike (OrderTried a d t o took) r′
     tried-alike (Refused why place) is = record { other = orderRefused why place took [] d t; is = refl; same = refused-alike why place took [] is }
     tried-alike Done j =
-        judged-alike (changedOf (d .board) o) took
+        judged-alike (changedOf (d .board) o) took (r′ .answer) refl
         (subst (λ (b : Board). OrderJudged (changedOf b o) d′ t took r′) (sym (alike .board)) j)
 
     tried-same : triedOf d′ t o ≡ triedOf d t o

@@ -22,3 +22,4 @@ pub mod Existence
 pub mod Turning
 pub mod LatestLaws
 pub mod LatestEndsLaws
+pub mod TickWorth

@@ -1,4 +1,3 @@
-pub mod TableLaws
 pub mod Loops
 pub mod Rounds
 pub mod TimesLaws

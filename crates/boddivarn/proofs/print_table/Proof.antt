@@ -4,63 +4,67 @@ use Rattle.boddivarn.proofs.print_table.Statement.{statement}
 use Rattle.boddivarn.proofs.print_table.Tie as tie
 use Rattle.boddivarn.proofs.print_table.Reads as reads
 use Rattle.boddivarn.proofs.print_table.Lts as lts
+use Rattle.boddivarn.proofs.print_line.Reads as print-line-reads
 use Rattle.boddivarn.proofs.print_part.Reads as print-part-reads
-use Rattle.console.proofs.end_line.Reads as end-line-reads
 use Rattle.console.proofs.number.Reads as number-reads
 use Rattle.console.proofs.text.Reads as text-reads
 use Rattle.questions.proofs.whole.Reads as whole-reads
 
 abbrev Inv-loop : tie.InvT-loop
-Inv-loop d names whole n p₀ t7 p = Unit
+Inv-loop page₀ d names head whole n p₀ t10 page p = Unit
 
 abbrev μ-loop : tie.MeasureT-loop
-μ-loop d names whole n p₀ t7 p = n - p
+μ-loop page₀ d names head whole n p₀ t10 page p = n - p
 
--- src/main.rt:105:19
+-- src/main.rt:111:39
 slice-aggregate-text : tie.Need-slice-aggregate-text Inv-loop μ-loop
 slice-aggregate-text c = search needs
 
--- src/main.rt:105:5
+-- src/main.rt:111:9
 text-requires : tie.Need-text-requires Inv-loop μ-loop
 text-requires c κs = search needs
 
--- src/main.rt:106:9
+-- src/main.rt:112:5
+print-line-requires : tie.Need-print-line-requires Inv-loop μ-loop
+print-line-requires c κs = search needs
+
+-- src/main.rt:113:9
 whole-requires : tie.Need-whole-requires Inv-loop μ-loop
 whole-requires c κs = search needs
 
--- src/main.rt:109:5
+-- src/main.rt:116:5
 loop-holds : tie.Need-loop-holds Inv-loop μ-loop
 loop-holds c = search needs
 
--- src/main.rt:110:9
+-- src/main.rt:117:9
 print-part-requires : tie.Need-print-part-requires Inv-loop μ-loop
 print-part-requires c κs = search needs
 
--- src/main.rt:111:13
+-- src/main.rt:118:13
 add-p : tie.Need-add-p Inv-loop μ-loop
 add-p c = search needs
 
--- src/main.rt:109:5
+-- src/main.rt:116:5
 loop-less : tie.Need-loop-less Inv-loop μ-loop
 loop-less c = search needs
 
--- src/main.rt:109:5
+-- src/main.rt:116:5
 loop-again : tie.Need-loop-again Inv-loop μ-loop
 loop-again c = search needs
 
--- src/main.rt:113:21
+-- src/main.rt:120:42
 slice-aggregate-number : tie.Need-slice-aggregate-number Inv-loop μ-loop
 slice-aggregate-number c = search needs
 
--- src/main.rt:113:5
+-- src/main.rt:120:9
 number-requires : tie.Need-number-requires Inv-loop μ-loop
 number-requires c κs = search needs
 
--- src/main.rt:114:5
-end-line-requires : tie.Need-end-line-requires Inv-loop μ-loop
-end-line-requires c κs = search needs
+-- src/main.rt:121:5
+print-line-requires-2 : tie.Need-print-line-requires-2 Inv-loop μ-loop
+print-line-requires-2 c κs = search needs
 
--- src/main.rt:104:1
+-- src/main.rt:110:1
 returns : tie.Need-returns Inv-loop μ-loop
 returns c = search needs
 
@@ -72,6 +76,7 @@ print-table-spec =
     μ-loop
     slice-aggregate-text
     text-requires
+    print-line-requires
     whole-requires
     loop-holds
     print-part-requires
@@ -80,5 +85,5 @@ print-table-spec =
     loop-again
     slice-aggregate-number
     number-requires
-    end-line-requires
+    print-line-requires-2
     returns)

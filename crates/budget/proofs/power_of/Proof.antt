@@ -1,6 +1,6 @@
 -- `budget::power_of` meets its contract.
 -- Assumes nothing.
-use Rattle.budget.proofs.Making.{power-there, power-not-refused}
+use Rattle.budget.proofs.Making.{power-there, power-refused}
 use borrow.Author.Needs.{needs}
 use Rattle.budget.proofs.power_of.Statement.{statement}
 use Rattle.budget.proofs.power_of.Tie as tie
@@ -18,10 +18,10 @@ enum-told : tie.Need-enum-told
 enum-told c = search needs
 
 returns : tie.Need-returns
-returns c = search (power-there, power-not-refused)
+returns c = search (power-there, power-refused)
 
 returns-2 : tie.Need-returns-2
-returns-2 c = search (power-there, power-not-refused)
+returns-2 c = search (power-there, power-refused)
 
 pub power-of-spec : {M : Type 1} → statement M
 power-of-spec = tie.close (tie.spec power-at-requires enum-known-power enum-told returns returns-2)

@@ -2,18 +2,17 @@
 -- Assumes nothing.
 use Prim.Native.Nat.{_-_, _≤_}
 use Rattle.budget.proofs.Making.{Drawn, powers-none, powers-more, powers-done}
-use Rattle.budget.specs.Made.{Delays}
 use borrow.Author.Needs.{needs}
 use Rattle.budget.proofs.powers.Statement.{statement}
 use Rattle.budget.proofs.powers.Tie as tie
 use Rattle.budget.proofs.powers.Reads as reads
 use Rattle.budget.proofs.powers.Lts as lts
-use Rattle.budget.proofs.lesser.Reads as lesser-reads
+use Rattle.base.proofs.lesser.Reads as lesser-reads
 use Rattle.budget.proofs.power_of.Reads as power-of-reads
-use Rattle.budget.proofs.zeros.Reads as zeros-reads
+use Rattle.curve.proofs.no_powers.Reads as no-powers-reads
 
 abbrev Inv-loop : tie.InvT-loop
-Inv-loop b delay n w₀ k₀ w k = (k ≤ n) × (Delays b delay → Drawn b delay w k)
+Inv-loop b delay n w₀ k₀ w k = (k ≤ n) × Drawn b delay w k
 
 abbrev μ-loop : tie.MeasureT-loop
 μ-loop b delay n w₀ k₀ w k = n - k
@@ -21,8 +20,8 @@ abbrev μ-loop : tie.MeasureT-loop
 lesser-requires : tie.Need-lesser-requires Inv-loop μ-loop
 lesser-requires c κs = search needs
 
-zeros-requires : tie.Need-zeros-requires Inv-loop μ-loop
-zeros-requires c κs = search needs
+no-powers-requires : tie.Need-no-powers-requires Inv-loop μ-loop
+no-powers-requires c κs = search needs
 
 loop-holds : tie.Need-loop-holds Inv-loop μ-loop
 loop-holds c = (search needs, search (powers-none))
@@ -33,11 +32,11 @@ mul-c c = search needs
 element-copy-out-c : tie.Need-element-copy-out-c Inv-loop μ-loop
 element-copy-out-c c = search needs
 
-mul-t13 : tie.Need-mul-t13 Inv-loop μ-loop
-mul-t13 c = search needs
+mul-power-of : tie.Need-mul-power-of Inv-loop μ-loop
+mul-power-of c = search needs
 
-array-read-t19 : tie.Need-array-read-t19 Inv-loop μ-loop
-array-read-t19 c = search needs
+array-copy-out-power-of : tie.Need-array-copy-out-power-of Inv-loop μ-loop
+array-copy-out-power-of c = search needs
 
 power-of-requires : tie.Need-power-of-requires Inv-loop μ-loop
 power-of-requires c κs = search needs
@@ -45,8 +44,8 @@ power-of-requires c κs = search needs
 mul-w : tie.Need-mul-w Inv-loop μ-loop
 mul-w c = search needs
 
-array-write-w : tie.Need-array-write-w Inv-loop μ-loop
-array-write-w c = search needs
+array-set-from-w : tie.Need-array-set-from-w Inv-loop μ-loop
+array-set-from-w c = search needs
 
 add-k : tie.Need-add-k Inv-loop μ-loop
 add-k c = search needs
@@ -67,15 +66,15 @@ powers-spec =
     Inv-loop
     μ-loop
     lesser-requires
-    zeros-requires
+    no-powers-requires
     loop-holds
     mul-c
     element-copy-out-c
-    mul-t13
-    array-read-t19
+    mul-power-of
+    array-copy-out-power-of
     power-of-requires
     mul-w
-    array-write-w
+    array-set-from-w
     add-k
     loop-less
     loop-again

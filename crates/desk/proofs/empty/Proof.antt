@@ -6,7 +6,7 @@ use Rattle.desk.proofs.empty.Reads as reads
 use Rattle.desk.proofs.empty.Lts as lts
 use Rattle.board.proofs.empty.Reads as empty-reads
 use Rattle.desk.proofs.no_advice.Reads as no-advice-reads
-use Rattle.desk.proofs.no_budget.Reads as no-budget-reads
+use Rattle.budget.proofs.no_budget.Reads as no-budget-reads
 
 -- src/lib.rt:100:9
 empty-requires : tie.Need-empty-requires

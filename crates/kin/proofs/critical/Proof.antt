@@ -1,9 +1,10 @@
--- `critical` meets its contract.
--- Assumes nothing.
 use Rattle.kin.proofs.Ways.{from-past, to-past, too-early, compared}
 use borrow.Author.Needs.{needs}
 use Rattle.kin.proofs.critical.Statement.{statement}
 use Rattle.kin.proofs.critical.Tie as tie
+use Rattle.kin.proofs.critical.Reads as reads
+use Rattle.kin.proofs.critical.Lts as lts
+use Rattle.board.proofs.link_delay.Reads as link-delay-reads
 
 returns : tie.Need-returns
 returns c = search (from-past)
@@ -14,14 +15,14 @@ returns-2 c = search (to-past)
 mul-e : tie.Need-mul-e
 mul-e c = search needs
 
-array-read-e : tie.Need-array-read-e
-array-read-e c = search needs
+element-copy-out-e : tie.Need-element-copy-out-e
+element-copy-out-e c = search needs
 
 mul-s : tie.Need-mul-s
 mul-s c = search needs
 
-array-read-s : tie.Need-array-read-s
-array-read-s c = search needs
+element-copy-out-s : tie.Need-element-copy-out-s
+element-copy-out-s c = search needs
 
 returns-3 : tie.Need-returns-3
 returns-3 c = search (too-early)
@@ -39,9 +40,9 @@ critical-spec =
     returns
     returns-2
     mul-e
-    array-read-e
+    element-copy-out-e
     mul-s
-    array-read-s
+    element-copy-out-s
     returns-3
     link-delay-requires
     returns-4)

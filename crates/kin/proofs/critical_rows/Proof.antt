@@ -1,5 +1,3 @@
--- `critical_rows` meets its contract. The loop has made the rows of the first k links.
--- Assumes nothing.
 use mathlib.Core.Path.{_≡_}
 use Prim.Native.Nat.{_-_, _≤_}
 use Rattle.kin.specs.Steps.{rowsUpTo}
@@ -8,15 +6,21 @@ use Rattle.kin.proofs.RowLaws.{rows-done}
 use borrow.Author.Needs.{needs}
 use Rattle.kin.proofs.critical_rows.Statement.{statement}
 use Rattle.kin.proofs.critical_rows.Tie as tie
+use Rattle.kin.proofs.critical_rows.Reads as reads
+use Rattle.kin.proofs.critical_rows.Lts as lts
+use Rattle.base.proofs.lesser.Reads as lesser-reads
+use Rattle.kin.proofs.critical.Reads as critical-reads
+use Rattle.kin.proofs.no_rows.Reads as no-rows-reads
+use Rattle.kin.proofs.with_link.Reads as with-link-reads
 
 abbrev Inv-loop : tie.InvT-loop
-Inv-loop start end b n t₀ k₀ t k = (k ≤ n) × (t ≡ rowsUpTo b start end k)
+Inv-loop held b n t₀ k₀ t k = (k ≤ n) × (t ≡ rowsUpTo b held k)
 
 abbrev μ-loop : tie.MeasureT-loop
-μ-loop start end b n t₀ k₀ t k = n - k
+μ-loop held b n t₀ k₀ t k = n - k
 
-capped-requires : tie.Need-capped-requires Inv-loop μ-loop
-capped-requires c κs = search needs
+lesser-requires : tie.Need-lesser-requires Inv-loop μ-loop
+lesser-requires c κs = search needs
 
 no-rows-requires : tie.Need-no-rows-requires Inv-loop μ-loop
 no-rows-requires c κs = search needs
@@ -54,7 +58,7 @@ critical-rows-spec =
     (tie.spec
     Inv-loop
     μ-loop
-    capped-requires
+    lesser-requires
     no-rows-requires
     loop-holds
     mul-l

@@ -1,12 +1,14 @@
--- `link_is_critical` meets its contract.
--- Assumes nothing.
 use Rattle.kin.proofs.Ways.{no-such-link, such-link}
 use borrow.Author.Needs.{needs}
 use Rattle.kin.proofs.link_is_critical.Statement.{statement}
 use Rattle.kin.proofs.link_is_critical.Tie as tie
+use Rattle.kin.proofs.link_is_critical.Reads as reads
+use Rattle.kin.proofs.link_is_critical.Lts as lts
+use Rattle.base.proofs.lesser.Reads as lesser-reads
+use Rattle.kin.proofs.critical.Reads as critical-reads
 
-capped-requires : tie.Need-capped-requires
-capped-requires c κs = search needs
+lesser-requires : tie.Need-lesser-requires
+lesser-requires c κs = search needs
 
 returns : tie.Need-returns
 returns c = search (no-such-link)
@@ -27,7 +29,7 @@ pub link-is-critical-spec : {M : Type 1} → statement M
 link-is-critical-spec =
     tie.close
     (tie.spec
-    capped-requires
+    lesser-requires
     returns
     mul-critical
     element-copy-out-critical

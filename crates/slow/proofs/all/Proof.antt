@@ -1,6 +1,6 @@
 -- `slow::all` meets its contract.
 -- Assumes nothing.
-use Rattle.times.specs.Times.{table}
+use Rattle.base.specs.Table.{table}
 use mathlib.Core.Path.{refl}
 use Rattle.slow.proofs.all.Statement.{statement}
 use Rattle.slow.proofs.all.Tie as tie

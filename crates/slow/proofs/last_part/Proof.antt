@@ -1,4 +1,4 @@
--- `slow::last_part` meets its contract. The invariant: the last part is that of the first k parts.
+-- `slow::last_part` meets its contract.
 -- Assumes nothing.
 use Rattle.times.proofs.Loops.{scaled}
 use Rattle.slow.proofs.Ways.{last-none, last-in, last-more, last-done}
@@ -24,14 +24,14 @@ loop-holds c = (search needs, last-none _)
 mul-later : tie.Need-mul-later Inv-loop μ-loop
 mul-later c = search (scaled, last-in, needs)
 
-array-read-later : tie.Need-array-read-later Inv-loop μ-loop
-array-read-later c = search (scaled, last-in, needs)
+array-copy-out-later : tie.Need-array-copy-out-later Inv-loop μ-loop
+array-copy-out-later c = search (scaled, last-in, needs)
 
 mul-later-2 : tie.Need-mul-later-2 Inv-loop μ-loop
 mul-later-2 c = search (scaled, last-in, needs)
 
-array-read-later-2 : tie.Need-array-read-later-2 Inv-loop μ-loop
-array-read-later-2 c = search (scaled, last-in, needs)
+array-copy-out-later-2 : tie.Need-array-copy-out-later-2 Inv-loop μ-loop
+array-copy-out-later-2 c = search (scaled, last-in, needs)
 
 later-requires : tie.Need-later-requires Inv-loop μ-loop
 later-requires c κs = search needs
@@ -56,9 +56,9 @@ last-part-spec =
     μ-loop
     loop-holds
     mul-later
-    array-read-later
+    array-copy-out-later
     mul-later-2
-    array-read-later-2
+    array-copy-out-later-2
     later-requires
     add-k
     loop-less

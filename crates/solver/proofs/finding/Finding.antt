@@ -6,12 +6,12 @@ use mathlib.Core.List.{List}
 use Prim.Native.Nat.{ℕ, _+_, _≤_, _<_}
 use native.Mathlib.Omega.{arith}
 use Rattle.theory.specs.Sum.{cells}
+use Rattle.curve.specs.declared.Ticks.{Ticks}
 use Rattle.board.specs.declared.Board.{Board}
 use Rattle.board.specs.Board.{WellFormed, view, usable}
 use Rattle.board.proofs.UsableLaws.{usable-to}
 use Rattle.times.specs.declared.Schedule.{Schedule}
-use Rattle.times.specs.Times.{slowestsOf, Timeable, TimesOf}
-use Rattle.times.proofs.TimesLaws.{slowest-timeable}
+use Rattle.times.specs.Times.{slowestsOf, TimesOf, Loopless}
 use Rattle.nets.specs.Layout.{LATE}
 use Rattle.nets.specs.Net.{Net}
 use Rattle.nets.specs.Flow.{Fit, World}
@@ -26,13 +26,13 @@ use Rattle.solver.proofs.wiring.Worlds.{board-world}
 use Rattle.solver.proofs.finding.Slowest.{slowest-fit, node-most}
 
 -- ---- times to begin at
-pub schedule-slowest : (b : Board) → Solvable b → (d : List ℕ) → (WellFormed b → d ≡ slowestsOf b) → (s : Schedule) → (Timeable b d → TimesOf b d s) →
-    TimesOf b (slowestsOf b) s
+pub schedule-slowest : (b : Board) → Solvable b → (d : List Ticks) → (WellFormed b → d ≡ slowestsOf b) → (s : Schedule) → (Loopless b → TimesOf (view b) d s) →
+    TimesOf (view b) (slowestsOf b) s
 schedule-slowest b can d said s timed =
     let is : d ≡ slowestsOf b = said (can .formed) in
-    rw is at (timed (slowest-timeable b (can .formed) (can .ranked) d is))
+    rw is at (timed (record { formed = can .formed; ranked = can .ranked }))
 
-pub slowest-begun : (b : Board) (due : ℕ) (s : Schedule) → TimesOf b (slowestsOf b) s → (t : List ℕ) → Begun (s .start) (s .end) due t → Slowest b due t
+pub slowest-begun : (b : Board) (due : ℕ) (s : Schedule) → TimesOf (view b) (slowestsOf b) s → (t : List ℕ) → Begun (s .start) (s .end) due t → Slowest b due t
 slowest-begun b due s timed t begun = record { schedule = s; timed = timed; begun = begun }
 
 -- ---- what the sheet holds while times are laid on it

@@ -8,12 +8,14 @@ use native.Mathlib.Decide.{ℕ-discrete}
 use lib.ListN.{length, getD, set, length-set}
 use lib.Seq.{getD-set-same, getD-set-other}
 use Rattle.theory.specs.Sum.{cells}
+use Rattle.curve.specs.declared.Ticks.{Ticks}
+use Rattle.curve.specs.Rows.{ticksAt}
 use Rattle.nets.specs.Layout.{LATE}
 use Rattle.nets.proofs.Regions.{only-none, only-set}
 use Rattle.solver.specs.Finding.{Placing, Begun, LateIn}
 
 -- ---- `begin`
-module _ (start end : List ℕ) (due : ℕ) (t : List ℕ) where
+module _ (start end : List Ticks) (due : ℕ) (t : List ℕ) where
   pub place-none : length t ≡ 130 → Placing start end due 0 t due
   place-none room = record {
     starts = λ p h. absurd (omega arith);
@@ -26,17 +28,17 @@ module _ (start end : List ℕ) (due : ℕ) (t : List ℕ) where
 
   module _ (k most : ℕ) (h : k < 64) (is : Placing start end due k t most) where
     -- the two stores, and what they leave
-    pub place-more : (most′ : ℕ) → most′ ≡ max most (getD end k 0) →
-        Placing start end due (k + 1) (set (set t k (getD start k 0)) (64 + k) (getD end k 0)) most′
+    pub place-more : (most′ : ℕ) → most′ ≡ max most (ticksAt end k) →
+        Placing start end due (k + 1) (set (set t k (ticksAt start k)) (64 + k) (ticksAt end k)) most′
     place-more most′ new =
-        let t₁ : List ℕ = set t k (getD start k 0) in
-        let room₁ : length t₁ ≡ 130 = length-set t k (getD start k 0) ∙ is .room in
-        let there : (v : ℕ) → (v ≡ k → ⊥) → (v ≡ 64 + k → ⊥) → cells (set t₁ (64 + k) (getD end k 0)) v ≡ cells t v =
-        λ v d e. getD-set-other t₁ (64 + k) v (getD end k 0) 0 e ∙ getD-set-other t k v (getD start k 0) 0 d in
-        let start-here : cells (set t₁ (64 + k) (getD end k 0)) k ≡ getD start k 0 =
-        getD-set-other t₁ (64 + k) k (getD end k 0) 0 (λ e. omega arith) ∙ getD-set-same t k (getD start k 0) 0 (omega (arith, is .room)) in
-        let end-here : cells (set t₁ (64 + k) (getD end k 0)) (64 + k) ≡ getD end k 0 =
-        getD-set-same t₁ (64 + k) (getD end k 0) 0 (omega (arith, room₁)) in
+        let t₁ : List ℕ = set t k (ticksAt start k) in
+        let room₁ : length t₁ ≡ 130 = length-set t k (ticksAt start k) ∙ is .room in
+        let there : (v : ℕ) → (v ≡ k → ⊥) → (v ≡ 64 + k → ⊥) → cells (set t₁ (64 + k) (ticksAt end k)) v ≡ cells t v =
+        λ v d e. getD-set-other t₁ (64 + k) v (ticksAt end k) 0 e ∙ getD-set-other t k v (ticksAt start k) 0 d in
+        let start-here : cells (set t₁ (64 + k) (ticksAt end k)) k ≡ ticksAt start k =
+        getD-set-other t₁ (64 + k) k (ticksAt end k) 0 (λ e. omega arith) ∙ getD-set-same t k (ticksAt start k) 0 (omega (arith, is .room)) in
+        let end-here : cells (set t₁ (64 + k) (ticksAt end k)) (64 + k) ≡ ticksAt end k =
+        getD-set-same t₁ (64 + k) (ticksAt end k) 0 (omega (arith, room₁)) in
         record {
           starts = λ p l. elim (ℕ-discrete p k) [
             | yes e ↦ rw e start-here
@@ -52,7 +54,7 @@ module _ (start end : List ℕ) (due : ℕ) (t : List ℕ) where
           ];
           due-late = omega (arith, new, is .due-late);
           early = λ m d all. omega (arith, new, is .early m d all, all k h);
-          room = length-set t₁ (64 + k) (getD end k 0) ∙ room₁;
+          room = length-set t₁ (64 + k) (ticksAt end k) ∙ room₁;
         }
 
   pub place-done : (k most : ℕ) → k ≤ 64 → 64 ≤ k → Placing start end due k t most → Begun start end due (set (set t 128 0) 129 most)

@@ -8,14 +8,17 @@ use native.Mathlib.Omega.{arith}
 use Rattle.base.proofs.Cases.{lt-or-le}
 use Rattle.theory.specs.Sum.{cells}
 use Rattle.theory.proofs.ArriveLaws.{arrive-ge}
+use Rattle.theory.specs.Budget.{Timed}
+use Rattle.curve.specs.declared.Ticks.{Ticks}
 use Rattle.curve.specs.Curve.{slowestOf}
+use Rattle.curve.specs.Rows.{ticksAt}
 use Rattle.board.specs.declared.Board.{Board}
 use Rattle.board.specs.Board.{WellFormed, view, usable, curveAt}
 use Rattle.board.proofs.Lawful.{lawful}
 use Rattle.board.proofs.UsableLaws.{usable-to}
 use Rattle.times.specs.declared.Schedule.{Schedule}
-use Rattle.times.specs.Times.{slowestsOf, Timeable, TimesOf}
-use Rattle.times.proofs.TimesLaws.{slowest-at, slowest-timeable, times-to}
+use Rattle.times.specs.Times.{slowestsOf, TimesOf, Loopless}
+use Rattle.times.proofs.TimesLaws.{slowest-at, slowest-few, times-timed, times-to}
 use Rattle.nets.specs.Net.{Net}
 use Rattle.nets.specs.Flow.{Fit}
 use Rattle.nets.specs.Wired.{Wired, linkArc, entryArc, exitArc}
@@ -23,21 +26,27 @@ use Rattle.nets.proofs.Arcs.{each-arc}
 use Rattle.solver.specs.Solve.{Solvable}
 use Rattle.solver.specs.Finding.{Begun}
 
-module _ (b : Board) (can : Solvable b) (N : Net) (w : Wired (view b) N) (d : List ℕ) (is : d ≡ slowestsOf b) (s : Schedule) (timed : TimesOf b d s)
+module _ (b : Board) (can : Solvable b) (N : Net) (w : Wired (view b) N) (d : List Ticks) (is : d ≡ slowestsOf b) (s : Schedule) (times : TimesOf (view b) d s)
     (t : List ℕ) (begun : Begun (s .start) (s .end) (usable b) t) where
   abbrev ok : WellFormed b
   ok = can .formed
 
-  start-at : (p : ℕ) → p < b .parts → cells t p ≡ cells (s .start) p
+  abbrev loopless : Loopless b
+  loopless = record { formed = can .formed; ranked = can .ranked }
+
+  timed : Timed (view b) (ticksAt d) (ticksAt (s .start)) (ticksAt (s .end))
+  timed = times-timed b loopless d (slowest-few b loopless d is) s times
+
+  start-at : (p : ℕ) → p < b .parts → cells t p ≡ ticksAt (s .start) p
   start-at p h = begun .placed .starts p (omega (arith, ok .parts-to))
 
-  end-at : (p : ℕ) → p < b .parts → cells t (64 + p) ≡ cells (s .end) p
+  end-at : (p : ℕ) → p < b .parts → cells t (64 + p) ≡ ticksAt (s .end) p
   end-at p h = begun .placed .ends p (omega (arith, ok .parts-to))
 
   -- from start to end a part takes its slowest delay
-  takes : (p : ℕ) → p < b .parts → cells (s .end) p ≡ cells (s .start) p + slowestOf (curveAt b p)
+  takes : (p : ℕ) → p < b .parts → ticksAt (s .end) p ≡ ticksAt (s .start) p + slowestOf (curveAt b p)
   unfolding view
-  takes p h = omega (arith, timed .timed .ends p h, ap (λ (l : List ℕ). cells l p) is, slowest-at b ok p h)
+  takes p h = omega (arith, timed .ends p h, ap (λ (row : List Ticks). ticksAt row p) is, slowest-at b loopless p h)
 
   module _ (x : ℕ → ℕ) (none : (a : ℕ) → x a ≡ 0) where
     -- no load asks only that ticks further on save nothing
@@ -54,8 +63,8 @@ module _ (b : Board) (can : Solvable b) (N : Net) (w : Wired (view b) N) (d : Li
     part-fits : (p : ℕ) → p < view b .parts → Fit N (cells t) x p
     unfolding view slowestOf
     part-fits p h =
-        let tail : cells t (N .tail p) ≡ cells (s .start) p = ap (cells t) (w .part-tail p h) ∙ start-at p h in
-        let head : cells t (N .head p) ≡ cells (s .end) p = ap (cells t) (w .part-head p h) ∙ end-at p h in
+        let tail : cells t (N .tail p) ≡ ticksAt (s .start) p = ap (cells t) (w .part-tail p h) ∙ start-at p h in
+        let head : cells t (N .head p) ≡ ticksAt (s .end) p = ap (cells t) (w .part-head p h) ∙ end-at p h in
         idle-fit p (omega (arith, w .part-base p h, takes p h))
         (λ j l. w .part-gain p h j ∙ lawful b ok .past p h j (omega (arith, w .part-base p h, takes p h)))
 
@@ -70,8 +79,8 @@ module _ (b : Board) (can : Solvable b) (N : Net) (w : Wired (view b) N) (d : Li
           tail,
           head,
           w .link-base l h,
-          timed .timed .starts (view b .to l) (ok .to-in l h),
-          arrive-ge (view b) (cells (s .end)) l h,
+          timed .starts (view b .to l) (ok .to-in l h),
+          arrive-ge (view b) (ticksAt (s .end)) l h,
         ))
 
     entry-fits : (p : ℕ) → p < view b .parts → Fit N (cells t) x (entryArc (view b) p)
@@ -95,15 +104,12 @@ module _ (b : Board) (can : Solvable b) (N : Net) (w : Wired (view b) N) (d : Li
     slowest-fit = each-arc (view b) (Fit N (cells t) x) part-fits link-fits entry-fits exit-fits (N .arcs) (w .arcs)
 
   -- ---- none of them large
-  able : Timeable b d
-  able = slowest-timeable b ok (can .ranked) d is
+  end-most : (p : ℕ) → ticksAt (s .end) p ≤ 149370
+  end-most = times-to b loopless d (slowest-few b loopless d is) s times
 
-  end-most : (p : ℕ) → cells (s .end) p ≤ 149370
-  end-most = times-to b d able s timed
-
-  start-most : (p : ℕ) → cells (s .start) p ≤ 149370
+  start-most : (p : ℕ) → ticksAt (s .start) p ≤ 149370
   start-most p =
-      ⊎-elim (λ (h : p < b .parts). omega (arith, takes p h, end-most p)) (λ (h : b .parts ≤ p). omega (arith, timed .start-blank p h))
+      ⊎-elim (λ (h : p < b .parts). omega (arith, takes p h, end-most p)) (λ (h : b .parts ≤ p). omega (arith, times .start-blank p h))
       (lt-or-le p (b .parts))
 
   pub node-most : (v : ℕ) → v < 130 → cells t v ≤ 262144

@@ -1,40 +1,40 @@
--- `times::ends` meets its contract. The invariant: the ends are those of the first k parts.
+-- `times::ends` meets its contract.
 -- Assumes nothing.
 use Rattle.times.proofs.Loops.{ends-none, ends-more, ends-done}
-use Rattle.times.specs.Times.{Summed, endsOf}
-use Prim.Native.Nat.{_≤_, _-_}
+use Rattle.times.specs.Rounds.{endsOf}
 use mathlib.Core.Path.{_≡_}
+use Prim.Native.Nat.{_≤_, _-_}
 use borrow.Author.Needs.{needs}
 use Rattle.times.proofs.ends.Statement.{statement}
 use Rattle.times.proofs.ends.Tie as tie
 use Rattle.times.proofs.ends.Reads as reads
 use Rattle.times.proofs.ends.Lts as lts
 use Rattle.curve.proofs.Ticks.plus.Reads as plus-reads
-use Rattle.times.proofs.zeros.Reads as zeros-reads
+use Rattle.curve.proofs.no_ticks.Reads as no-ticks-reads
 
 abbrev Inv-loop : tie.InvT-loop
-Inv-loop n s delay e₀ k₀ e k = (k ≤ n) × (Summed s delay n → e ≡ endsOf s delay k)
+Inv-loop n s delay e₀ k₀ e k = (k ≤ n) × (e ≡ endsOf s delay k)
 
 abbrev μ-loop : tie.MeasureT-loop
 μ-loop n s delay e₀ k₀ e k = n - k
 
-zeros-requires : tie.Need-zeros-requires Inv-loop μ-loop
-zeros-requires c κs = search needs
+no-ticks-requires : tie.Need-no-ticks-requires Inv-loop μ-loop
+no-ticks-requires c κs = search needs
 
 loop-holds : tie.Need-loop-holds Inv-loop μ-loop
 loop-holds c = (search needs, search (ends-none))
 
-mul-t11 : tie.Need-mul-t11 Inv-loop μ-loop
-mul-t11 c = search needs
+mul-plus : tie.Need-mul-plus Inv-loop μ-loop
+mul-plus c = search needs
 
-array-read-t14 : tie.Need-array-read-t14 Inv-loop μ-loop
-array-read-t14 c = search needs
+array-copy-out-plus : tie.Need-array-copy-out-plus Inv-loop μ-loop
+array-copy-out-plus c = search needs
 
-mul-t16 : tie.Need-mul-t16 Inv-loop μ-loop
-mul-t16 c = search needs
+mul-plus-2 : tie.Need-mul-plus-2 Inv-loop μ-loop
+mul-plus-2 c = search needs
 
-array-read-t19 : tie.Need-array-read-t19 Inv-loop μ-loop
-array-read-t19 c = search needs
+array-copy-out-plus-2 : tie.Need-array-copy-out-plus-2 Inv-loop μ-loop
+array-copy-out-plus-2 c = search needs
 
 plus-requires : tie.Need-plus-requires Inv-loop μ-loop
 plus-requires c κs = search needs
@@ -42,8 +42,8 @@ plus-requires c κs = search needs
 mul-e : tie.Need-mul-e Inv-loop μ-loop
 mul-e c = search needs
 
-array-write-e : tie.Need-array-write-e Inv-loop μ-loop
-array-write-e c = search needs
+array-set-from-e : tie.Need-array-set-from-e Inv-loop μ-loop
+array-set-from-e c = search needs
 
 add-k : tie.Need-add-k Inv-loop μ-loop
 add-k c = search needs
@@ -63,15 +63,15 @@ ends-spec =
     (tie.spec
     Inv-loop
     μ-loop
-    zeros-requires
+    no-ticks-requires
     loop-holds
-    mul-t11
-    array-read-t14
-    mul-t16
-    array-read-t19
+    mul-plus
+    array-copy-out-plus
+    mul-plus-2
+    array-copy-out-plus-2
     plus-requires
     mul-e
-    array-write-e
+    array-set-from-e
     add-k
     loop-less
     loop-again

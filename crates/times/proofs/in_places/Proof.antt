@@ -1,7 +1,7 @@
--- `times::in_places` meets its contract. The invariant: the first k links are in place.
+-- `times::in_places` meets its contract.
 -- Assumes nothing.
 use Rattle.times.proofs.Loops.{places-none, places-more, from-outside, to-outside, places-done}
-use Rattle.times.specs.Times.{InPlaces}
+use Rattle.times.specs.Rounds.{InPlaces}
 use Prim.Native.Nat.{_≤_, _-_}
 use borrow.Author.Needs.{needs}
 use Rattle.times.proofs.in_places.Statement.{statement}
@@ -16,7 +16,7 @@ abbrev μ-loop : tie.MeasureT-loop
 μ-loop n link k₀ k = n - k
 
 loop-holds : tie.Need-loop-holds Inv-loop μ-loop
-loop-holds c = (search needs, places-none _)
+loop-holds c = (search needs, search (places-none))
 
 mul-l : tie.Need-mul-l Inv-loop μ-loop
 mul-l c = search needs
@@ -25,10 +25,10 @@ array-copy-out-l : tie.Need-array-copy-out-l Inv-loop μ-loop
 array-copy-out-l c = search needs
 
 returns : tie.Need-returns Inv-loop μ-loop
-returns c = search (from-outside)
+returns c = search (from-outside, to-outside, places-done)
 
 returns-2 : tie.Need-returns-2 Inv-loop μ-loop
-returns-2 c = search (to-outside)
+returns-2 c = search (from-outside, to-outside, places-done)
 
 add-k : tie.Need-add-k Inv-loop μ-loop
 add-k c = search needs
@@ -40,7 +40,7 @@ loop-again : tie.Need-loop-again Inv-loop μ-loop
 loop-again c = (search needs, search (places-more))
 
 returns-3 : tie.Need-returns-3 Inv-loop μ-loop
-returns-3 c = search (places-done)
+returns-3 c = search (from-outside, to-outside, places-done)
 
 pub in-places-spec : {M : Type 1} → statement M
 in-places-spec =

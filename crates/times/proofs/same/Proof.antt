@@ -1,4 +1,4 @@
--- `times::same` meets its contract. The invariant: the lists are alike below k.
+-- `times::same` meets its contract.
 -- Assumes nothing.
 use Rattle.times.proofs.Loops.{Alike, alike-none, alike-more, differ, agree}
 use Prim.Native.Nat.{_≤_, _-_}
@@ -9,25 +9,25 @@ use Rattle.times.proofs.same.Reads as reads
 use Rattle.times.proofs.same.Lts as lts
 
 abbrev Inv-loop : tie.InvT-loop
-Inv-loop a b k₀ k = (k ≤ 64) × (Alike a b k)
+Inv-loop a b k₀ k = (k ≤ 64) × Alike a b k
 
 abbrev μ-loop : tie.MeasureT-loop
 μ-loop a b k₀ k = 64 - k
 
 loop-holds : tie.Need-loop-holds Inv-loop μ-loop
-loop-holds c = (search needs, alike-none _ _)
+loop-holds c = (search needs, search (alike-none))
 
 mul-if1 : tie.Need-mul-if1 Inv-loop μ-loop
 mul-if1 c = search needs
 
-array-read-if1 : tie.Need-array-read-if1 Inv-loop μ-loop
-array-read-if1 c = search needs
+element-copy-out-if1 : tie.Need-element-copy-out-if1 Inv-loop μ-loop
+element-copy-out-if1 c = search needs
 
 mul-if1-2 : tie.Need-mul-if1-2 Inv-loop μ-loop
 mul-if1-2 c = search needs
 
-array-read-if1-2 : tie.Need-array-read-if1-2 Inv-loop μ-loop
-array-read-if1-2 c = search needs
+element-copy-out-if1-2 : tie.Need-element-copy-out-if1-2 Inv-loop μ-loop
+element-copy-out-if1-2 c = search needs
 
 returns : tie.Need-returns Inv-loop μ-loop
 returns c = differ _ _ _ (c .if1 .taken)
@@ -52,9 +52,9 @@ same-spec =
     μ-loop
     loop-holds
     mul-if1
-    array-read-if1
+    element-copy-out-if1
     mul-if1-2
-    array-read-if1-2
+    element-copy-out-if1-2
     returns
     add-k
     loop-less

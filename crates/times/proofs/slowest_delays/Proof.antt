@@ -1,21 +1,22 @@
--- `times::slowest_delays` meets its contract. The invariant: the first k places hold the slowest delays of their parts.
+-- `times::slowest_delays` meets its contract.
 -- Assumes nothing.
 use Rattle.times.proofs.Loops.{slowest-none, slowest-more, slowest-done}
-use Rattle.times.specs.Times.{firsts, slowestAt}
+use Rattle.times.specs.Times.{slowestAt}
 use Rattle.board.specs.Board.{WellFormed}
-use Prim.Native.Nat.{_≤_, _-_}
+use Rattle.curve.specs.Rows.{ticksRow}
 use mathlib.Core.Path.{_≡_}
+use Prim.Native.Nat.{_≤_, _-_}
 use borrow.Author.Needs.{needs}
 use Rattle.times.proofs.slowest_delays.Statement.{statement}
 use Rattle.times.proofs.slowest_delays.Tie as tie
 use Rattle.times.proofs.slowest_delays.Reads as reads
 use Rattle.times.proofs.slowest_delays.Lts as lts
+use Rattle.base.proofs.lesser.Reads as lesser-reads
 use Rattle.curve.proofs.Curve.slowest.Reads as slowest-reads
-use Rattle.times.proofs.lesser.Reads as lesser-reads
-use Rattle.times.proofs.zeros.Reads as zeros-reads
+use Rattle.curve.proofs.no_ticks.Reads as no-ticks-reads
 
 abbrev Inv-loop : tie.InvT-loop
-Inv-loop b n d₀ k₀ d k = (k ≤ n) × (WellFormed b → d ≡ firsts k (slowestAt b))
+Inv-loop b n d₀ k₀ d k = (k ≤ n) × (WellFormed b → d ≡ ticksRow k (slowestAt b))
 
 abbrev μ-loop : tie.MeasureT-loop
 μ-loop b n d₀ k₀ d k = n - k
@@ -23,11 +24,11 @@ abbrev μ-loop : tie.MeasureT-loop
 lesser-requires : tie.Need-lesser-requires Inv-loop μ-loop
 lesser-requires c κs = search needs
 
-zeros-requires : tie.Need-zeros-requires Inv-loop μ-loop
-zeros-requires c κs = search needs
+no-ticks-requires : tie.Need-no-ticks-requires Inv-loop μ-loop
+no-ticks-requires c κs = search needs
 
 loop-holds : tie.Need-loop-holds Inv-loop μ-loop
-loop-holds c = (search needs, search (slowest-none))
+loop-holds c = (search needs, λ _. search (slowest-none))
 
 mul-c : tie.Need-mul-c Inv-loop μ-loop
 mul-c c = search needs
@@ -41,8 +42,8 @@ slowest-requires c κs = search needs
 mul-d : tie.Need-mul-d Inv-loop μ-loop
 mul-d c = search needs
 
-array-write-d : tie.Need-array-write-d Inv-loop μ-loop
-array-write-d c = search needs
+array-set-from-d : tie.Need-array-set-from-d Inv-loop μ-loop
+array-set-from-d c = search needs
 
 add-k : tie.Need-add-k Inv-loop μ-loop
 add-k c = search needs
@@ -63,13 +64,13 @@ slowest-delays-spec =
     Inv-loop
     μ-loop
     lesser-requires
-    zeros-requires
+    no-ticks-requires
     loop-holds
     mul-c
     element-copy-out-c
     slowest-requires
     mul-d
-    array-write-d
+    array-set-from-d
     add-k
     loop-less
     loop-again

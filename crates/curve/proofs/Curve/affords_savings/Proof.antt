@@ -9,7 +9,6 @@ use Rattle.curve.proofs.Curve.affords_savings.Tie as tie
 use Rattle.curve.proofs.Curve.affords_savings.Reads as reads
 use Rattle.curve.proofs.Curve.affords_savings.Lts as lts
 use Rattle.curve.proofs.Run.saved.Reads as saved-reads
-use Rattle.curve.proofs.lesser.Reads as lesser-reads
 
 abbrev Inv-loop : tie.InvT-loop
 Inv-loop self n left₀ k₀ left k = (k ≤ n) × (left + savedTo self k ≡ self .power .0)

@@ -11,7 +11,6 @@ use Rattle.curve.proofs.Curve.next_saving.Tie as tie
 use Rattle.curve.proofs.Curve.next_saving.Reads as reads
 use Rattle.curve.proofs.Curve.next_saving.Lts as lts
 use Rattle.curve.proofs.above.Reads as above-reads
-use Rattle.curve.proofs.lesser.Reads as lesser-reads
 
 abbrev Inv-loop : tie.InvT-loop
 Inv-loop self n left₀ k₀ left k = (k ≤ n) × (left + sum k (lengthAt self) ≡ left₀)

@@ -10,7 +10,6 @@ use Rattle.curve.proofs.Curve.power_at.Reads as reads
 use Rattle.curve.proofs.Curve.power_at.Lts as lts
 use Rattle.curve.proofs.Power.off_curve.Reads as off-curve-reads
 use Rattle.curve.proofs.Slowing.used.Reads as used-reads
-use Rattle.curve.proofs.lesser.Reads as lesser-reads
 
 abbrev Inv-loop : tie.InvT-loop
 Inv-loop self refused n slowing₀ k₀ slowing k = (k ≤ n) × (slowing ≡ slowedTo self (slowing₀ .left .0) k)

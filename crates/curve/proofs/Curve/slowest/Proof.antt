@@ -9,7 +9,6 @@ use Rattle.curve.proofs.Curve.slowest.Tie as tie
 use Rattle.curve.proofs.Curve.slowest.Reads as reads
 use Rattle.curve.proofs.Curve.slowest.Lts as lts
 use Rattle.curve.proofs.Ticks.plus.Reads as plus-reads
-use Rattle.curve.proofs.lesser.Reads as lesser-reads
 
 abbrev Inv-loop : tie.InvT-loop
 Inv-loop self n delay₀ k₀ delay k = (k ≤ n) × (delay .0 ≡ min (slowTo self k) 4294967295)
