@@ -129,8 +129,9 @@ class Sheet:
         state, x = self.state, self.x(self.state.last_tick)
         side = "end" if state.last_tick * 2 > self.ticks else "start"
         out = [svg.line(x, TOP - 4, x, self.bottom + 4, stroke=svg.LIMIT, stroke_width=2.5, stroke_dasharray="8 3", class_="deadline")]
-        out.append(svg.text(x, TOP - 26, f"usable deadline {state.last_tick}", text_anchor=side, font_weight="bold"))
-        if state.deadline != state.last_tick:
+        guarded = f" of {state.deadline}" if state.deadline != state.last_tick else ""
+        out.append(svg.text(x, TOP - 26, f"usable deadline {state.last_tick}{guarded}", text_anchor=side, font_weight="bold"))
+        if guarded:
             guard = self.x(state.deadline)
             out.append(svg.line(guard, TOP, guard, self.bottom, stroke=svg.LIMIT, stroke_dasharray="2 3"))
         return "".join(out)

@@ -135,17 +135,22 @@ def build():
     with file:
         take_lock(file, fcntl.LOCK_EX, "another run is building the programs or running them; waiting for it")
         if not is_current():
-            prove()
+            prove(file)
 
 
-def prove():
-    """Runs rt, and stamps what it built."""
+def prove(lock):
+    """Runs rt, and stamps what it built. The lock goes along: it is held until rt has ended, even where this run is killed."""
     with contextlib.suppress(FileNotFoundError):
         os.remove(STAMP)
     sources, total = sources_now(), len(crates_below()[0])
     say(f"proving and building the programs, {total} crates (from nothing some minutes, else what has changed)")
-    command = subprocess.Popen(["rt", "check", *PROGRAMS], cwd=ROOT, stdout=subprocess.PIPE, stderr=subprocess.STDOUT)
-    said = follow(command, total)
+    pipes = {"stdout": subprocess.PIPE, "stderr": subprocess.STDOUT}
+    command = subprocess.Popen(["rt", "check", *PROGRAMS], cwd=ROOT, pass_fds=[lock.fileno()], **pipes)
+    try:
+        said = follow(command, total)
+    except BaseException:
+        command.terminate()
+        raise
     with open(LOG, "wb") as file:
         file.write(said)
     if command.wait() != 0:

@@ -2,6 +2,7 @@
 import glob
 import os
 import shutil
+import signal
 import subprocess
 import tempfile
 import time
@@ -119,6 +120,28 @@ class Building(unittest.TestCase):
         self.write(os.path.join(self.root, "crates", "low", "src", "main.rt"), "fn main() {} // changed\n")
         self.assertEqual(self.run_plan()[0], 0)
         self.assertEqual((running.communicate(timeout=60)[0].split()[:2], running.returncode), (["01", "03"], 0))
+
+    def test_a_killed_run_does_not_leave_two_builds_at_once(self):
+        running = self.start(env={"SLOWLY": "2"})
+        while self.builds() == 0:
+            time.sleep(0.05)
+        running.kill()
+        running.communicate()
+        began = time.monotonic()
+        status, _, said = self.run_plan()
+        self.assertEqual((status, self.builds()), (0, 2))
+        self.assertIn("waiting for it", said)
+        self.assertGreater(time.monotonic() - began, 1)
+
+    def test_an_interrupted_run_ends_its_build(self):
+        running = self.start(env={"SLOWLY": "30"})
+        while self.builds() == 0:
+            time.sleep(0.05)
+        time.sleep(0.3)
+        running.send_signal(signal.SIGINT)
+        _, said = running.communicate(timeout=20)
+        self.assertEqual(running.returncode, 130)
+        self.assertNotIn("Traceback", said)
 
     def test_a_failed_proof_is_said_and_tried_again(self):
         status, out, said = self.run_plan(env={"BROKEN": "1"})

@@ -8,6 +8,7 @@ import xml.etree.ElementTree
 import asked
 import chart
 import datafile
+import front
 import page
 import programs
 import report
@@ -15,7 +16,7 @@ import worth
 from sources import source_of
 from story import tell
 
-EXAMPLES = [os.path.join(programs.ROOT, "examples", name) for name in ("D", "K", "sampler")]
+EXAMPLES = [os.path.join(programs.ROOT, "examples", name) for name in ("D", "K", "sampler", "guard")]
 SVG = "{http://www.w3.org/2000/svg}"
 # Board K without its orders: the latest arrivals at the same price, and the latest ends.
 K_LATE = [(0, 4, 4), (4, 5, 9), (9, 1, 10), (4, 6, 10)]
@@ -28,9 +29,10 @@ def setUpModule():
 
 
 def planned(source):
-    """The table of the program itself: label, start, delay, end, power of each part; and the total."""
+    """The table of the program itself: label, start, delay, end, power of each part; and the total. Under rule B that of calls."""
     files = {"board.dat": source.board_data, "orders.dat": source.orders_data, "names.txt": source.sheet}
-    lines = programs.run("boddivarn", files).decode("ascii").split("\n")
+    text = programs.run("boddivarn", files).decode("ascii") if source.rule == "A" else front.table_of(tell(source))
+    lines = text.split("\n")
     rows = [line.split(" ") for line in lines if re.match(r"\d+ \S+ \d+ \d+ \d+ \d+$", line)]
     total = next(int(line.split(" ")[1]) for line in lines if line.startswith("total "))
     return [(row[1], *map(int, row[2:])) for row in rows], total
@@ -210,17 +212,25 @@ class Reports(unittest.TestCase):
     def test_no_critical_path(self):
         source = source_of(os.path.join(EXAMPLES[0], "board.txt"))
         story = tell(source)
-        story.state.deadline = 9
+        story.state.deadline = story.state.usable = 9
         self.assertEqual(list(report.path_lines(story)), ["critical paths: none; the last end is 3, 6 ticks before the deadline"])
 
 
 class Worth(unittest.TestCase):
     def test_totals_fall_and_fall_by_less_and_less(self):
-        for example in EXAMPLES[:2]:
+        for example in EXAMPLES[:3]:
             _, rows = worth.worth(source_of(example))
             saved = [row.saves for row in rows[1:]]
             self.assertEqual(saved, sorted(saved, reverse=True))
             self.assertEqual((rows[0].saves, saved[-1]), (None, 0))
+
+    def test_under_rule_b_guard_ticks_save_nothing(self):
+        story, rows = worth.worth(source_of(EXAMPLES[3]), 80)
+        self.assertEqual((story.state.deadline, [row.deadline for row in rows if row.saves == 0][0]), (129, 128))
+        self.assertEqual([row.deadline for row in rows if row.total is None], [80])
+        for row in rows[1:]:
+            self.assertEqual(row.usable, row.deadline - row.deadline // 64)
+        self.assertIn("flat from 127 to 128: no tick between saves anything\n", worth.text(story, rows))
 
     def test_each_total_is_that_of_the_board_with_that_deadline(self):
         source = source_of(os.path.join(EXAMPLES[1], "board.txt"))

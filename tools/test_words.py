@@ -11,10 +11,13 @@ import unittest
 
 import front
 import programs
+import sources
+import story
 
 ROOT = programs.ROOT
 STORED = os.path.join(ROOT, "tools", "expected")
-EXAMPLES = ("D", "K", "sampler")
+RULE_A = ("D", "K", "sampler")
+EXAMPLES = RULE_A + ("guard",)
 # The name of a stored output, and the words that make it. OUT stands for a file that is stored too.
 WORDS = {
     "plan": ["plan", "BOARD"],
@@ -94,10 +97,22 @@ class Stored(unittest.TestCase):
 
     def test_plan_prints_the_programs_own_table(self):
         with tempfile.TemporaryDirectory() as folder:
-            for example in EXAMPLES:
-                self.assertEqual(boddivarn("pack", os.path.join("examples", example), "--out", folder)[0], 0)
+            for example in RULE_A:
+                place = os.path.join(ROOT, "examples", example)
+                self.assertEqual(boddivarn("pack", place, "--out", folder)[0], 0)
                 table = subprocess.run([os.path.join(ROOT, "tools", "run"), "boddivarn"], cwd=folder, capture_output=True, check=True).stdout
-                self.assertEqual(boddivarn("plan", os.path.join("examples", example))[1], table.decode("ascii"))
+                self.assertEqual(boddivarn("plan", place)[1], table.decode("ascii"))
+                self.assertEqual(front.table_of(story.tell(sources.source_of(place))), table.decode("ascii"))  # as under rule B
+
+    def test_under_rule_b(self):
+        status, out, said = called("plan", os.path.join("examples", "guard"), cwd=ROOT)
+        self.assertEqual((status, out), (1, "order 2 refused 10\npart label start delay end power\n0 FRONT 0 64 64 708\n1 BACK 64 63 127 734\n"
+                                            "total 1442\norders 1 taken 1 refused\n"))
+        self.assertEqual(said, "boddivarn: note: the program names rule A; under rule B the program calls has planned this board\n"
+                         "examples/guard/orders.txt:3: deadline 64 is refused (10): FRONT, BACK take 80 ticks at their fastest, 17 too many"
+                         " (deadline 64 leaves 63 under rule B)\n")
+        fault = "examples/guard/board.txt:2: rule B cannot be packed: a design file of version 1 does not say it, and the program names A\n"
+        self.assertEqual(called("pack", os.path.join("examples", "guard"), "--out", "/nowhere", cwd=ROOT), (1, "", fault))
 
     def test_runs_at_once_on_different_boards(self):
         alone = {example: boddivarn("plan", os.path.join("examples", example)) for example in EXAMPLES}
@@ -324,7 +339,7 @@ class BothWays(unittest.TestCase):
             return file.read()
 
     def test_examples_there_and_back(self):
-        for example in EXAMPLES:
+        for example in RULE_A:
             self.assertEqual(self.run_words("pack", os.path.join(ROOT, "examples", example), "--out", "one"), (0, "", ""))
             self.assertEqual(self.run_words("unpack", "one", "--out", "texts"), (0, "", ""))
             self.assertEqual(self.run_words("pack", "texts", "--out", "two"), (0, "", ""))
