@@ -202,6 +202,9 @@ class Refused(unittest.TestCase):
             self.write("k/board.dat", data[:change[0]] + change[1] + (data[change[0] + 1:] if change[1] else b""))
             self.assertEqual(self.run_words("explain", "k")[:2], (1, why + "\n"))
             self.assertEqual(self.run_words("plan", "k")[2], why + "\n")
+        self.write("k/board.dat", bytes.fromhex("010a02 010000 010000 02 0001 0100".replace(" ", "")))
+        loop = "k/board.dat: the board is refused (9): a loop: AMP -> VIA (k/board.dat: byte 10) -> AMP (k/board.dat: byte 12); take out one of these links\n"
+        self.assertEqual(self.run_words("explain", "k")[:2], (1, loop))
         self.write("k/board.dat", data)
         self.write("k/orders.dat", bytes.fromhex("0109 0203 8000"))
         self.assertEqual(self.run_words("plan", "k")[2], "k/orders.dat: byte 4: the orders stop here (2): the to of order 2 is not in its shortest form;"
@@ -273,6 +276,7 @@ class BadInput(unittest.TestCase):
         self.write("bad.txt", Refused.BOARD + "link A X\n")
         self.write("orders.txt", "deadline 0\nadd A Y\n")
         self.assertEqual(self.said("plan", "bad.txt", "orders.txt").count("\n"), 3)
+        self.assertEqual(self.said("check", "bad.txt", "none.txt"), "bad.txt:7: no part is called 'X'\nnone.txt: there is no such file\n")
 
     def test_files_that_are_not_there(self):
         self.assertEqual(self.said("plan", "none.txt"), "none.txt: there is no such file or folder\n")
