@@ -11,6 +11,9 @@ turned-requires c κs = search needs
 times-by-requires : tie.Need-times-by-requires
 times-by-requires c κs = search needs
 
+usable-deadline-requires : tie.Need-usable-deadline-requires
+usable-deadline-requires c κs = search needs
+
 lesser-requires : tie.Need-lesser-requires
 lesser-requires c κs = search needs
 
@@ -22,4 +25,4 @@ returns c = search (late-returns, needs)
 
 pub latest-ends-spec : {M : Type 1} → statement M
 latest-ends-spec =
-    tie.close (tie.spec turned-requires times-by-requires lesser-requires left-requires returns)
+    tie.close (tie.spec turned-requires times-by-requires usable-deadline-requires lesser-requires left-requires returns)
