@@ -42,9 +42,6 @@ use Rattle.demands.proofs.LoadLaws.{said-read}
 loop-not-slow : {A : Type 0} {p q : ℕ} → Refused Looped p ≡ Refused TooSlow q → A
 loop-not-slow e = absurd (let z : _≡_ {A = ℕ} 0 1 = cc in omega arith)
 
-loop-not-slow : {A : Type 0} {p q : ℕ} → Refused Looped p ≡ Refused TooSlow q → A
-loop-not-slow e = absurd (let z : _≡_ {A = ℕ} 0 1 = cc in omega arith)
-
 module _ (b : Board) (w : WellFormed b) (free : LoopFree b) where
   slow-shown : {ticks : ℕ} {path : List ℕ} → SlowPath b ticks path → SlowShown b (refusal 10 ticks) (trailOf path)
   slow-shown {ticks} {path} x = record {
