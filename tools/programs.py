@@ -21,7 +21,7 @@ ROOT = os.path.dirname(os.path.dirname(os.path.realpath(__file__)))
 TARGET = os.path.join(ROOT, "target")
 LOCK, STAMP, LOG = (os.path.join(TARGET, name) for name in ("front.lock", "front.stamp", "front.log"))
 PROGRAMS = ("boddivarn", "calls")
-KIT = "rattle-kit-5b"
+INSTALL = "Install rattle-kit-5b and put its folder bin on PATH (docs/GUIDE.md, Installing)"
 SOURCES = ("src", "specs", "proofs", "data", "stdin", "stdout", "args")
 
 
@@ -123,10 +123,7 @@ def ready():
 def build():
     """Proves and builds; one run at a time, the others wait and find it done."""
     if shutil.which("rt") is None:
-        raise CannotRun(
-            f"the programs must be proved and built first, and the Rattle kit that does it is missing: no 'rt' is on PATH."
-            f" Install {KIT} and put its folder bin on PATH (docs/GUIDE.md, Installing)"
-        )
+        raise CannotRun(f"the programs must be proved and built first, and the Rattle kit that does it is missing: no 'rt' is on PATH. {INSTALL}")
     try:
         os.makedirs(TARGET, exist_ok=True)
         file = open(LOCK, "ab")
@@ -188,6 +185,8 @@ def last_words(said, most=30):
 
 def run(program, files):
     """What a program prints in a folder that holds these files, and no others."""
+    if os.uname().machine != "x86_64" and shutil.which("rt") is None:
+        raise CannotRun(f"the programs are for x86-64, and the Rattle kit that runs them here is missing: no 'rt' is on PATH. {INSTALL}")
     try:
         with tempfile.TemporaryDirectory(prefix="boddivarn-") as folder:
             for name, data in files.items():

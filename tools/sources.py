@@ -46,7 +46,10 @@ def source_of(board_path, orders_path=None):
     else:
         source, board_faults = text_board(board_path)
     source.notes = notes + source.notes
-    order_faults = take_orders(source, orders_path) if orders_path else []
+    try:
+        order_faults = take_orders(source, orders_path) if orders_path else []
+    except InputFaults as missing:
+        order_faults = missing.faults
     raise_faults(board_faults, order_faults)
     return source
 

@@ -101,6 +101,8 @@ def tell(source, changes=False):
     story = Story(source, load)
     if load.no:
         return story
+    if source.board is None:
+        raise CannotRun("the planner reads a design file that is not read here")
     story.state, story.first_total, story.ledger = state, state.total, Ledger(source.board, source.lines)
     size = CHUNK if changes else max(len(source.orders), 1)
     for at in range(0, len(source.orders), size):

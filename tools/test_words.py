@@ -4,6 +4,7 @@ After a change that is meant, `STORE=1 python3 -m unittest test_words` in tools/
 """
 import io
 import os
+import random
 import subprocess
 import sys
 import tempfile
@@ -16,6 +17,7 @@ import story
 
 ROOT = programs.ROOT
 STORED = os.path.join(ROOT, "tools", "expected")
+NOTE = "boddivarn: note: the program names rule A; under rule B the program calls has planned this board\n"
 RULE_A = ("D", "K", "sampler")
 EXAMPLES = RULE_A + ("guard",)
 # The name of a stored output, and the words that make it. OUT stands for a file that is stored too.
@@ -108,8 +110,7 @@ class Stored(unittest.TestCase):
         status, out, said = called("plan", os.path.join("examples", "guard"), cwd=ROOT)
         self.assertEqual((status, out), (1, "order 2 refused 10\npart label start delay end power\n0 FRONT 0 64 64 708\n1 BACK 64 63 127 734\n"
                                             "total 1442\norders 1 taken 1 refused\n"))
-        self.assertEqual(said, "boddivarn: note: the program names rule A; under rule B the program calls has planned this board\n"
-                         "examples/guard/orders.txt:3: deadline 64 is refused (10): FRONT, BACK take 80 ticks at their fastest, 17 too many"
+        self.assertEqual(said, NOTE + "examples/guard/orders.txt:3: deadline 64 is refused (10): FRONT, BACK take 80 ticks at their fastest, 17 too many"
                          " (deadline 64 leaves 63 under rule B)\n")
         fault = "examples/guard/board.txt:2: rule B cannot be packed: a design file of version 1 does not say it, and the program names A\n"
         self.assertEqual(called("pack", os.path.join("examples", "guard"), "--out", "/nowhere", cwd=ROOT), (1, "", fault))
@@ -202,6 +203,9 @@ class Refused(unittest.TestCase):
             self.write("k/board.dat", data[:change[0]] + change[1] + (data[change[0] + 1:] if change[1] else b""))
             self.assertEqual(self.run_words("explain", "k")[:2], (1, why + "\n"))
             self.assertEqual(self.run_words("plan", "k")[2], why + "\n")
+        self.write("k/board.dat", bytes.fromhex("010a02 010000 010000 02 0001 0100".replace(" ", "")))
+        loop = "k/board.dat: the board is refused (9): a loop: AMP -> VIA (k/board.dat: byte 10) -> AMP (k/board.dat: byte 12); take out one of these links\n"
+        self.assertEqual(self.run_words("explain", "k")[:2], (1, loop))
         self.write("k/board.dat", data)
         self.write("k/orders.dat", bytes.fromhex("0109 0203 8000"))
         self.assertEqual(self.run_words("plan", "k")[2], "k/orders.dat: byte 4: the orders stop here (2): the to of order 2 is not in its shortest form;"
@@ -273,6 +277,7 @@ class BadInput(unittest.TestCase):
         self.write("bad.txt", Refused.BOARD + "link A X\n")
         self.write("orders.txt", "deadline 0\nadd A Y\n")
         self.assertEqual(self.said("plan", "bad.txt", "orders.txt").count("\n"), 3)
+        self.assertEqual(self.said("check", "bad.txt", "none.txt"), "bad.txt:7: no part is called 'X'\nnone.txt: there is no such file\n")
 
     def test_files_that_are_not_there(self):
         self.assertEqual(self.said("plan", "none.txt"), "none.txt: there is no such file or folder\n")
@@ -371,6 +376,49 @@ class BothWays(unittest.TestCase):
             self.assertIn(self.run_words("save", place, "--out", "saved.txt")[0], (0, 1))
             first, again = self.run_words("plan", place)[1], self.run_words("plan", "saved.txt")[1]
             tables = [[line for line in out.split("\n") if "order" not in line] for out in (first, again)]
+            self.assertEqual(*tables)
+
+
+def random_curve(draw):
+    runs = [(draw.randint(1, 6), saving) for saving in sorted(draw.sample(range(1, 60), draw.randint(0, 4)), reverse=True)]
+    power = sum(length * saving for length, saving in runs) + draw.randint(0, 99)
+    return f"fastest {draw.randint(1, 9)} power {power}" + (" runs " + " ".join(f"{length}@{saving}" for length, saving in runs) if runs else "")
+
+
+def random_texts(draw):
+    """A small board, now and then looped, too slow or under rule B, and orders of every kind, good and bad."""
+    names = [f"N{part}" for part in range(draw.randint(1, 8))]
+    board = [f"deadline {draw.randint(15, 120)}"] + [f"part {name} {random_curve(draw)}" for name in names]
+    pairs = {tuple(sorted(draw.choices(names, k=2), reverse=draw.random() < 0.05)) for _ in range(draw.randint(0, 12))}
+    board += [f"link {one} {two}" for one, two in sorted(pairs) if one != two] + (["rule B"] if draw.random() < 0.3 else [])
+    orders = []
+    for _ in range(draw.randint(0, 12)):
+        one, two = draw.choice(sorted(pairs)) if pairs and draw.random() < 0.5 else draw.choices(names + ["@9"], k=2)
+        orders.append(draw.choice([f"deadline {draw.randint(1, 140)}", f"add {one} {two}", f"remove {one} {two}", f"curve {one} {random_curve(draw)}"]))
+    return "\n".join(board) + "\n", "\n".join(orders) + "\n"
+
+
+class AnyBoard(unittest.TestCase):
+    def test_every_word_agrees(self):
+        draw = random.Random(4)
+        with tempfile.TemporaryDirectory() as place:
+            for _ in range(12):
+                for name, text in zip(("board.txt", "orders.txt"), random_texts(draw)):
+                    with open(os.path.join(place, name), "w", encoding="ascii") as file:
+                        file.write(text)
+                said = {word: called(word, "board.txt", "orders.txt", cwd=place) for word in ("plan", "explain", "report", "page", "save")}
+                statuses = {status for status, _, _ in said.values()}
+                self.assertIn(statuses, ({0}, {1}), said["plan"][2])
+                self.assertEqual(said["plan"][2].replace(NOTE, ""), said["explain"][1] if statuses == {1} else "")
+                self.saved_plans_the_same(place, said)
+
+    def saved_plans_the_same(self, place, said):
+        """The board that is saved, planned without orders."""
+        if said["save"][1]:
+            with open(os.path.join(place, "saved.txt"), "w", encoding="ascii") as file:
+                file.write(said["save"][1])
+            again = called("plan", "saved.txt", cwd=place)[1]
+            tables = [[line for line in text.split("\n") if not line.startswith("order")] for text in (said["plan"][1], again)]
             self.assertEqual(*tables)
 
 

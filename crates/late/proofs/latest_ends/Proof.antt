@@ -21,8 +21,15 @@ left-requires : tie.Need-left-requires
 left-requires c κs = search needs
 
 returns : tie.Need-returns
-returns c = search (late-returns, needs)
+returns c = search (late-returns)
 
 pub latest-ends-spec : {M : Type 1} → statement M
 latest-ends-spec =
-    tie.close (tie.spec turned-requires times-by-requires usable-deadline-requires lesser-requires left-requires returns)
+    tie.close
+    (tie.spec
+    turned-requires
+    times-by-requires
+    usable-deadline-requires
+    lesser-requires
+    left-requires
+    returns)

@@ -108,6 +108,7 @@ module _ (b : Board) (can : Solvable b) (N : Net) (w : Wired (view b) N) (d : Li
   end-most = times-to b loopless d (slowest-few b loopless d is) s times
 
   start-most : (p : ℕ) → ticksAt (s .start) p ≤ 149370
+  unfolding view
   start-most p =
       ⊎-elim (λ (h : p < b .parts). omega (arith, takes p h, end-most p)) (λ (h : b .parts ≤ p). omega (arith, times .start-blank p h))
       (lt-or-le p (b .parts))

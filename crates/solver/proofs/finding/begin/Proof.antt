@@ -1,4 +1,4 @@
--- `finding::begin` meets its contract.
+-- `solver::finding::begin` meets its contract.
 -- Assumes nothing.
 use Prim.Native.Nat.{_-_, _≤_}
 use Rattle.solver.specs.Finding.{Placing}
@@ -22,8 +22,8 @@ loop-holds c = (search needs, search (place-none))
 mul-t : tie.Need-mul-t Inv-loop μ-loop
 mul-t c = search needs
 
-array-read-t : tie.Need-array-read-t Inv-loop μ-loop
-array-read-t c = search needs
+element-copy-out-t : tie.Need-element-copy-out-t Inv-loop μ-loop
+element-copy-out-t c = search needs
 
 mul-t-2 : tie.Need-mul-t-2 Inv-loop μ-loop
 mul-t-2 c = search needs
@@ -34,8 +34,8 @@ element-write-t c = search needs
 mul-t-3 : tie.Need-mul-t-3 Inv-loop μ-loop
 mul-t-3 c = search needs
 
-array-read-t-2 : tie.Need-array-read-t-2 Inv-loop μ-loop
-array-read-t-2 c = search needs
+element-copy-out-t-2 : tie.Need-element-copy-out-t-2 Inv-loop μ-loop
+element-copy-out-t-2 c = search needs
 
 add-t : tie.Need-add-t Inv-loop μ-loop
 add-t c = search needs
@@ -49,8 +49,8 @@ element-write-t-2 c = search needs
 mul-larger : tie.Need-mul-larger Inv-loop μ-loop
 mul-larger c = search needs
 
-array-read-larger : tie.Need-array-read-larger Inv-loop μ-loop
-array-read-larger c = search needs
+element-copy-out-larger : tie.Need-element-copy-out-larger Inv-loop μ-loop
+element-copy-out-larger c = search needs
 
 larger-requires : tie.Need-larger-requires Inv-loop μ-loop
 larger-requires c κs = search needs
@@ -82,16 +82,16 @@ begin-spec =
     seen-requires
     loop-holds
     mul-t
-    array-read-t
+    element-copy-out-t
     mul-t-2
     element-write-t
     mul-t-3
-    array-read-t-2
+    element-copy-out-t-2
     add-t
     mul-t-4
     element-write-t-2
     mul-larger
-    array-read-larger
+    element-copy-out-larger
     larger-requires
     add-k
     loop-less

@@ -1,4 +1,4 @@
--- `reading::nodes_from` meets its contract.
+-- `solver::reading::nodes_from` meets its contract.
 -- Assumes nothing.
 use mathlib.Core.Path.{_≡_}
 use Rattle.nets.specs.Sheet.{timeIn}
@@ -15,26 +15,29 @@ Inv-loop work first n times₀ k₀ times k = (k ≤ n) × (times ≡ nodesFrom 
 abbrev μ-loop : tie.MeasureT-loop
 μ-loop work first n times₀ k₀ times k = n - k
 
+no-ticks-requires : tie.Need-no-ticks-requires Inv-loop μ-loop
+no-ticks-requires c κs = search needs
+
 loop-holds : tie.Need-loop-holds Inv-loop μ-loop
 loop-holds c = (search needs, search (nodes-none))
 
-add-times : tie.Need-add-times Inv-loop μ-loop
-add-times c = search needs
+add-t8 : tie.Need-add-t8 Inv-loop μ-loop
+add-t8 c = search needs
 
-add-times-2 : tie.Need-add-times-2 Inv-loop μ-loop
-add-times-2 c = search needs
+add-t9 : tie.Need-add-t9 Inv-loop μ-loop
+add-t9 c = search needs
+
+mul-t10 : tie.Need-mul-t10 Inv-loop μ-loop
+mul-t10 c = search needs
+
+element-copy-out-t13 : tie.Need-element-copy-out-t13 Inv-loop μ-loop
+element-copy-out-t13 c = search needs
 
 mul-times : tie.Need-mul-times Inv-loop μ-loop
 mul-times c = search needs
 
-element-copy-out-times : tie.Need-element-copy-out-times Inv-loop μ-loop
-element-copy-out-times c = search needs
-
-mul-times-2 : tie.Need-mul-times-2 Inv-loop μ-loop
-mul-times-2 c = search needs
-
-array-write-times : tie.Need-array-write-times Inv-loop μ-loop
-array-write-times c = search needs
+array-set-from-times : tie.Need-array-set-from-times Inv-loop μ-loop
+array-set-from-times c = search needs
 
 add-k : tie.Need-add-k Inv-loop μ-loop
 add-k c = search needs
@@ -54,13 +57,14 @@ nodes-from-spec =
     (tie.spec
     Inv-loop
     μ-loop
+    no-ticks-requires
     loop-holds
-    add-times
-    add-times-2
+    add-t8
+    add-t9
+    mul-t10
+    element-copy-out-t13
     mul-times
-    element-copy-out-times
-    mul-times-2
-    array-write-times
+    array-set-from-times
     add-k
     loop-less
     loop-again

@@ -1,4 +1,4 @@
--- `wiring::lay_links` meets its contract.
+-- `solver::wiring::lay_links` meets its contract.
 -- Assumes nothing.
 use Prim.Native.Nat.{_-_, _≤_}
 use Rattle.solver.specs.Wiring.{LaidIn, linkSpan}
@@ -22,14 +22,14 @@ mul-link c = search needs
 element-copy-out-link : tie.Need-element-copy-out-link Inv-loop μ-loop
 element-copy-out-link c = search needs
 
+link-delay-requires : tie.Need-link-delay-requires Inv-loop μ-loop
+link-delay-requires c κs = search needs
+
 add-put : tie.Need-add-put Inv-loop μ-loop
 add-put c = search needs
 
 add-put-2 : tie.Need-add-put-2 Inv-loop μ-loop
 add-put-2 c = search (from-fits)
-
-link-delay-requires : tie.Need-link-delay-requires Inv-loop μ-loop
-link-delay-requires c κs = search needs
 
 put-requires : tie.Need-put-requires Inv-loop μ-loop
 put-requires c κs = (search (link-in), (search (from-in), search (to-in)))
@@ -55,9 +55,9 @@ lay-links-spec =
     loop-holds
     mul-link
     element-copy-out-link
+    link-delay-requires
     add-put
     add-put-2
-    link-delay-requires
     put-requires
     add-l
     loop-less
