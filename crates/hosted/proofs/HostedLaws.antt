@@ -8,16 +8,15 @@ use Rattle.refusal.specs.declared.Answer.{Answer}
 use Rattle.refusal.specs.declared.Answer.the-variants.{Done, Refused}
 use Rattle.desk.specs.declared.Desk.{Desk}
 use Rattle.desk.specs.Held.{Standing}
-use Rattle.desk.proofs.Judging.{empty-stands}
 use Rattle.desk.specs.Empty.{emptyDesk}
 use Rattle.desk.specs.Load.{noTally}
 use Rattle.demands.specs.Same.{SameDesk, SameLoaded}
 use Rattle.demands.proofs.Once.{load-once}
-use Rattle.demands.proofs.ReachedLaws.{load-standing}
 use Rattle.questions.specs.declared.ConeAsked.{ConeAsked}
 use Rattle.questions.specs.Tried.{partTried, Said}
 use Rattle.questions.specs.Sets.{coneRefused, UpstreamSaid}
 use Rattle.questions.proofs.QuestionLaws.{upstream-once}
+use Rattle.hosted.proofs.Ways.{load-stands}
 use Rattle.hosted.specs.Hosted.{LoadOf, TotalOf, UpstreamOf, LastOf, never, found, UpstreamAsked}
 
 -- two desks that loads of one file give are the same but for the advice
@@ -45,9 +44,6 @@ pub loaded-once : (s : List ℕ) (times r r′ : ℕ) → LastOf (TotalOf s) tim
 loaded-once s = last-once (TotalOf s) (total-once s)
 
 -- ---- the set upstream, which no advice changes either
-load-stands : (s : List ℕ) (d : Desk) → LoadOf s d → Standing d
-load-stands s d l = rw (l .desk) (load-standing emptyDesk noTally empty-stands 0 s (l .load) (l .said))
-
 -- a question that is tried alike on two standing desks is answered alike
 said-as :
     {R : Type 0} (a : Answer) (d d′ : Desk) (refused : Answer → R) (Is : R → Type 0) (r : R) → Standing d′ → Said a d′ refused Is r → Said a d refused Is r
