@@ -1,7 +1,7 @@
 -- Two answers that a question's contract allows are equal.
 -- Assumes nothing.
 use mathlib.Core.Path.{_≡_, sym, ap, _∙_}
-use Prim.Native.Nat.{ℕ}
+use Prim.Native.Nat.{ℕ, _<_}
 use lib.Count.{ones}
 use Rattle.refusal.specs.declared.Answer.{Answer}
 use Rattle.refusal.specs.declared.Answer.the-variants.{Done, Refused}
@@ -59,11 +59,11 @@ family-once d p r r′ x y =
 module _ (d : Desk) (st : Standing d) where
   pub upstream-once : (p : ℕ) (r r′ : ConeAsked) → UpstreamSaid d p r → UpstreamSaid d p r′ → r ≡ r′
   unfolding UpstreamSaid
-  upstream-once p = said-once d coneRefused _ (cone-once (λ q. Reach (d .board) q p)) st (partTried d p)
+  upstream-once p = said-once d coneRefused _ (cone-once (λ q. (q < 64) × Reach (d .board) q p)) st (partTried d p)
 
   pub downstream-once : (p : ℕ) (r r′ : ConeAsked) → DownstreamSaid d p r → DownstreamSaid d p r′ → r ≡ r′
   unfolding DownstreamSaid
-  downstream-once p = said-once d coneRefused _ (cone-once (λ q. Reach (d .board) p q)) st (partTried d p)
+  downstream-once p = said-once d coneRefused _ (cone-once (λ q. (q < 64) × Reach (d .board) p q)) st (partTried d p)
 
   pub families-once : (p : ℕ) (r r′ : FamilyAsked) → FamilySaid d p r → FamilySaid d p r′ → r ≡ r′
   unfolding FamilySaid

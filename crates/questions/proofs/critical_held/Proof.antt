@@ -1,4 +1,4 @@
--- `critical_held` meets its contract.
+-- `questions::critical_held` meets its contract.
 -- Assumes nothing.
 use Rattle.questions.proofs.Ways.{critical-so}
 use borrow.Author.Needs.{needs}

@@ -1,4 +1,4 @@
--- `part` meets its contract.
+-- `questions::part` meets its contract.
 -- Assumes nothing.
 use Rattle.questions.proofs.Answering.{part-given, part-none, part-past}
 use borrow.Author.Needs.{needs}
@@ -32,23 +32,23 @@ mul-t8 c = search needs
 element-copy-out-t11 : tie.Need-element-copy-out-t11
 element-copy-out-t11 c = search needs
 
-mul-t13 : tie.Need-mul-t13
-mul-t13 c = search needs
+mul-t12 : tie.Need-mul-t12
+mul-t12 c = search needs
 
-element-copy-out-t16 : tie.Need-element-copy-out-t16
-element-copy-out-t16 c = search needs
+element-copy-out-t15 : tie.Need-element-copy-out-t15
+element-copy-out-t15 c = search needs
 
-mul-t18 : tie.Need-mul-t18
-mul-t18 c = search needs
+mul-t16 : tie.Need-mul-t16
+mul-t16 c = search needs
 
-element-copy-out-t21 : tie.Need-element-copy-out-t21
-element-copy-out-t21 c = search needs
+element-copy-out-t19 : tie.Need-element-copy-out-t19
+element-copy-out-t19 c = search needs
 
-mul-t23 : tie.Need-mul-t23
-mul-t23 c = search needs
+mul-t20 : tie.Need-mul-t20
+mul-t20 c = search needs
 
-element-copy-out-t26 : tie.Need-element-copy-out-t26
-element-copy-out-t26 c = search needs
+element-copy-out-t23 : tie.Need-element-copy-out-t23
+element-copy-out-t23 c = search needs
 
 returns-2 : tie.Need-returns-2
 returns-2 c = search (part-given, part-none, part-past)
@@ -69,11 +69,11 @@ part-spec =
     returns
     mul-t8
     element-copy-out-t11
-    mul-t13
-    element-copy-out-t16
-    mul-t18
-    element-copy-out-t21
-    mul-t23
-    element-copy-out-t26
+    mul-t12
+    element-copy-out-t15
+    mul-t16
+    element-copy-out-t19
+    mul-t20
+    element-copy-out-t23
     returns-2
     returns-3)

@@ -1,12 +1,9 @@
--- `whole` meets its contract.
+-- `questions::whole` meets its contract.
 -- Assumes nothing.
 use Rattle.questions.proofs.Ways.{whole-held, whole-none}
 use borrow.Author.Needs.{needs}
 use Rattle.questions.proofs.whole.Statement.{statement}
 use Rattle.questions.proofs.whole.Tie as tie
-use Rattle.questions.proofs.whole.Reads as reads
-use Rattle.questions.proofs.whole.Lts as lts
-use Rattle.questions.proofs.no_board.Reads as no-board-reads
 
 no-board-requires : tie.Need-no-board-requires
 no-board-requires c κs = search needs
