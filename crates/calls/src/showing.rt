@@ -16,8 +16,9 @@ pub(crate) fn state(page: &mut [u8; PAGE], at: usize, d: Desk) -> Told {
 
 fn put_held(page: &mut [u8; PAGE], at: usize, d: Desk) -> usize {
     let whole = questions::whole(d);
+    let rule = whole.rule;
     let held = console::text(page, at, b"held 1\n");
-    let ruled = put_rule(page, held, whole.rule);
+    let ruled = put_rule(page, held, rule);
     let due = console::number(page, ruled, b"deadline ", whole.deadline.0 as u64);
     let usable = console::number(page, due, b" usable ", whole.usable.0 as u64);
     let named = console::text(page, usable, b"\nfile ");
@@ -49,12 +50,16 @@ fn put_parts(page: &mut [u8; PAGE], at: usize, d: Desk, parts: usize) -> usize {
 
 fn put_part(page: &mut [u8; PAGE], at: usize, d: Desk, p: usize) -> usize {
     let asked = questions::part(d, p);
+    let start = asked.start;
+    let delay = asked.delay;
+    let end = asked.end;
+    let power = asked.power;
     let row = Row {
         part: p,
-        start: asked.start,
-        delay: asked.delay,
-        end: asked.end,
-        power: asked.power,
+        start,
+        delay,
+        end,
+        power,
     };
     report::put_row(page, at, row)
 }
