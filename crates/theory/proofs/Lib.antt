@@ -1,5 +1,4 @@
 pub mod SumLaws
-pub mod CellLaws
 pub mod SavingLaws
 pub mod RunLaws
 pub mod TotalLaws
@@ -15,7 +14,6 @@ pub mod Finding
 pub mod LeastTimes
 pub mod Lowering
 pub mod Pushing
-pub mod Trail
 pub mod Search
 pub mod StrongDuality
 pub mod Existence
