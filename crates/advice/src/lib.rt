@@ -1,5 +1,7 @@
 // Advice: loads that are nearly always cheapest, by a network simplex on convex arcs, from any times and any loads; and a hint, in which order arcs
 // are best tried for the first times that fit them. Whoever asks judges both, so nothing is promised but that each call is safe and ends.
+#![tactic(auto)]
+
 mod growing;
 mod hinting;
 mod pivoting;

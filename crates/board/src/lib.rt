@@ -1,4 +1,6 @@
 // The board by value: a deadline and its rule, parts with their curves, and links in ascending order of from, then to.
+#![tactic(auto)]
+
 ghost use Rattle.std.specs.Prelude.{◌≡◌, ◌<◌};
 ghost use Rattle.curve.specs.Tests.{both};
 ghost use Rattle.board.specs.Board.{plain_link, delay_of, blank_curve, rule_number, rule_of, usable_under, usable, WellFormed};
@@ -7,14 +9,14 @@ ghost use Rattle.board.specs.Tests.{Decides, blank_curves, blank_links, empty_of
 use curve::{Curve, Microwatts, Ticks};
 
 // How many ticks of a deadline a path may take.
-#[derive(Drop)]
+#[derive(Clone, Copy)]
 pub enum Rule {
     A,
     B,
 }
 
 // A link leads from one part to another and takes ticks of its own.
-#[derive(Drop)]
+#[derive(Clone, Copy)]
 pub struct Link {
     pub from: usize,
     pub to: usize,
@@ -22,7 +24,7 @@ pub struct Link {
 }
 
 // There are `parts` parts and `links` links: the first of `curve` and of `link` are the board's, the others are blank.
-#[derive(Drop)]
+#[derive(Clone, Copy)]
 pub struct Board {
     pub rule: Rule,
     pub deadline: Ticks,

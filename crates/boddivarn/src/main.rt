@@ -1,5 +1,7 @@
 // The program of 01: a board, orders and names from the working directory, and what came of them. All that matters is in the library.
 // Each line is built on a page and written once.
+#![tactic(auto)]
+
 use console::PAGE;
 use desk::{Desk, Tally};
 use refusal::Answer;
@@ -10,7 +12,7 @@ const RULE_A: u32 = 0;
 const PLACE_MAX: usize = 18446744073709551615;
 
 // The desk and the tally after the orders.
-#[derive(Drop)]
+#[derive(Clone, Copy)]
 struct Ended {
     desk: Desk,
     tally: Tally,

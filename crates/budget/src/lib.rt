@@ -1,5 +1,7 @@
 // A budget of a board: when each part starts and ends, what it draws, and what all draw together. At a delay that its curve does not have a part
 // draws nothing here.
+#![tactic(auto)]
+
 ghost use Rattle.std.specs.Prelude.{◌≡◌, ◌+◌, ◌≤◌};
 ghost use Rattle.budget.specs.Made.{no_budget, drawn_of, delays_of, powers_of, total_of, budget_of};
 
@@ -8,11 +10,11 @@ use board::Board;
 use curve::{Curve, Microwatts, Power, Ticks, no_powers, no_ticks};
 
 // The power of all parts together, in microwatts.
-#[derive(Drop)]
+#[derive(Clone, Copy)]
 pub struct Total(pub u64);
 
 // Places without a part hold 0.
-#[derive(Drop)]
+#[derive(Clone, Copy)]
 pub struct Budget {
     pub start: [Ticks; 64],
     pub delay: [Ticks; 64],

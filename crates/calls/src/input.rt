@@ -3,14 +3,14 @@ ghost use Rattle.std.specs.Prelude.{◌≡◌, ◌+◌, ◌*◌, ◌<◌, min};
 ghost use Rattle.io.specs.Counts.{IsPrefixLen};
 
 // A byte or a number; `there` is false where the file ends before its last byte.
-#[derive(Drop)]
+#[derive(Clone, Copy)]
 pub(crate) struct Given {
     pub there: bool,
     pub value: u64,
 }
 
 // A byte string at the front of a buffer; `there` is false where the file ends within it, or where it is longer than the buffer.
-#[derive(Drop)]
+#[derive(Clone, Copy)]
 pub(crate) struct Filled {
     pub there: bool,
     pub count: usize,

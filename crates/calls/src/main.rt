@@ -1,6 +1,8 @@
 // A support program: calls.dat holds a row of calls of the library, and a line or more is printed for each. One desk, one tally and one
 // named rule are held from call to call. A call is a byte, then its numbers, each of eight bytes, then its byte strings, each after its length.
 // A new call is a line of `change` or `ask` and a function in the module of its kind.
+#![tactic(auto)]
+
 mod asking;
 mod changing;
 mod input;
@@ -15,7 +17,7 @@ use desk::{Desk, Tally};
 const MOST: u64 = 18446744073709551615;
 
 // What is held from call to call. The rule is what later loads name.
-#[derive(Drop)]
+#[derive(Clone, Copy)]
 pub(crate) struct Session {
     pub desk: Desk,
     pub tally: Tally,
@@ -23,14 +25,14 @@ pub(crate) struct Session {
 }
 
 // How far the page is filled after a call, and whether the call was whole.
-#[derive(Drop)]
+#[derive(Clone, Copy)]
 pub(crate) struct Told {
     pub at: usize,
     pub whole: bool,
 }
 
 // The same, and what is then held.
-#[derive(Drop)]
+#[derive(Clone, Copy)]
 pub(crate) struct Turn {
     pub session: Session,
     pub at: usize,

@@ -1,5 +1,7 @@
 // Files in and text out, for the programs. Text is put on a page that is lent; `at` says how much of it is filled. A full page is
 // written out before the next byte, so that nothing that is put on it is lost.
+#![tactic(auto)]
+
 ghost use Rattle.std.specs.Prelude.{◌≡◌, [], ◌∷◌, ◌+◌, ◌/◌, ◌%◌, ◌<◌, take, set};
 ghost use Rattle.io.specs.Counts.{IsPrefixLen};
 ghost use Rattle.console.specs.Page.{spot_of, text_on, text_end, NumberPut, hex_digit, hex_of};

@@ -1,6 +1,8 @@
 // A part's curve: how slow it may be and what each tick of that saves. Ticks and microwatts are two types, and neither is taken for the other.
 // Every contract holds for any value of a curve: powers and savings go run by run and take off as they go, and ticks past their type stay at its
 // greatest.
+#![tactic(auto)]
+
 ghost use Rattle.std.specs.Prelude.{◌≡◌, ◌+◌, ◌*◌, ◌-◌, ◌<◌, max, min, leb};
 ghost use Rattle.base.specs.Decides.{Decides};
 ghost use Rattle.base.specs.Table.{table};
@@ -13,22 +15,22 @@ use base::lesser;
 use refusal::Why;
 
 // A count of ticks.
-#[derive(Drop)]
+#[derive(Clone, Copy)]
 pub struct Ticks(pub u32);
 
 // A power.
-#[derive(Drop)]
+#[derive(Clone, Copy)]
 pub struct Microwatts(pub u32);
 
 // Some ticks in a row that save the same each.
-#[derive(Drop)]
+#[derive(Clone, Copy)]
 pub struct Run {
     pub length: Ticks,
     pub saving: Microwatts,
 }
 
 // The first `count` of `runs` are the curve's; the others are blank.
-#[derive(Drop)]
+#[derive(Clone, Copy)]
 pub struct Curve {
     pub fastest: Ticks,
     pub power: Microwatts,
@@ -37,21 +39,21 @@ pub struct Curve {
 }
 
 // The power at a delay, or why there is none.
-#[derive(Drop)]
+#[derive(Clone, Copy)]
 pub enum Power {
     At(Microwatts),
     Refused { why: Why, place: usize },
 }
 
 // What the last tick used saves; at the fastest delay none is used.
-#[derive(Drop)]
+#[derive(Clone, Copy)]
 pub enum Last {
     Saving(Microwatts),
     Unused,
 }
 
 // A delay on its way along a curve: the ticks still to be used, and the power with those used so far.
-#[derive(Drop)]
+#[derive(Clone, Copy)]
 struct Slowing {
     left: Ticks,
     power: Microwatts,

@@ -26,14 +26,14 @@ fn above(net: &[u32; 2048], a: usize, x: u32) -> u32
 }
 
 // A node and the time it must have; node 130 is none.
-#[derive(Drop)]
+#[derive(Clone, Copy)]
 pub struct Raise {
     pub node: usize,
     pub time: u32,
 }
 
 // All that the sheets say of one arc: its ends, its tail's time, its base, its head's time and its load.
-#[derive(Drop)]
+#[derive(Clone, Copy)]
 pub struct Ends {
     pub tail: usize,
     pub head: usize,

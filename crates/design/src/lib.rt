@@ -1,4 +1,6 @@
 // A design file, read and written. A reading stops at the first fault; loops and slow paths are another crate's.
+#![tactic(auto)]
+
 ghost use Rattle.std.specs.Prelude.{◌≡◌, ◌≤◌, ◌<◌, ◌+◌, length};
 ghost use Rattle.fields.specs.Parse.{number, stop};
 ghost use Rattle.board.specs.Tests.{blank_curves, blank_links};
@@ -11,35 +13,35 @@ use groups::Read;
 use refusal::{Answer, Why};
 
 // The board that a file describes, or the first fault; at a fault no board.
-#[derive(Drop)]
+#[derive(Clone, Copy)]
 pub struct DesignRead {
     pub answer: Answer,
     pub board: Board,
 }
 
 // What a file says before its parts, and the rule that it is read under.
-#[derive(Drop)]
+#[derive(Clone, Copy)]
 struct Head {
     rule: Rule,
     deadline: u32,
     parts: usize,
 }
 
-#[derive(Drop)]
+#[derive(Clone, Copy)]
 struct PartsRead {
     answer: Answer,
     next: usize,
     curve: [Curve; 64],
 }
 
-#[derive(Drop)]
+#[derive(Clone, Copy)]
 struct LinkRead {
     answer: Answer,
     next: usize,
     link: Link,
 }
 
-#[derive(Drop)]
+#[derive(Clone, Copy)]
 struct LinksRead {
     answer: Answer,
     next: usize,

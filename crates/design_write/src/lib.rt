@@ -1,4 +1,6 @@
 // A board as a design file: its bytes counted and written.
+#![tactic(auto)]
+
 ghost use Rattle.std.specs.Prelude.{◌≡◌, ◌*◌, ◌≤◌, length};
 ghost use Rattle.groups.specs.Number.{groups};
 ghost use Rattle.fields.specs.Writing.{WroteIfRoom};

@@ -1,4 +1,6 @@
 // Numbers in their ranges, and a curve, as bytes: one reader and one writer for design files and for orders.
+#![tactic(auto)]
+
 ghost use Rattle.std.specs.Prelude.{◌≡◌, ◌*◌, ◌≤◌, ◌<◌, length};
 ghost use Rattle.groups.specs.Number.{groups, encode};
 ghost use Rattle.fields.specs.Parse.{number, ranged_at, field_at, stop, repeat};
@@ -10,7 +12,7 @@ use groups::Read;
 use refusal::{Answer, Why};
 
 // A curve and the place past it, or the first fault.
-#[derive(Drop)]
+#[derive(Clone, Copy)]
 pub struct CurveRead {
     pub answer: Answer,
     pub next: usize,

@@ -1,4 +1,6 @@
 // Numbers in a file (01, Files): in groups of seven bits, lowest group first, at most GROUPS groups, shortest form only.
+#![tactic(auto)]
+
 ghost use Rattle.std.specs.Prelude.{◌≡◌, ◌<◌, ◌≤◌, ◌+◌, ◌%◌, length};
 ghost use Rattle.std.proofs.lemmas.List.Edits.{sets};
 ghost use Rattle.groups.specs.declared.Read.TheVariants.{Refused};
@@ -12,7 +14,7 @@ pub const GROUPS: usize = 4;
 pub const LIMIT: u32 = 1 << (7 * GROUPS);
 
 // What reading a number finds: its value and the place past it, or why it is refused and the refusal's place.
-#[derive(Drop)]
+#[derive(Clone, Copy)]
 pub enum Read {
     Number { value: u32, next: usize },
     Refused { why: Why, place: usize },

@@ -1,4 +1,6 @@
 // Critical links, and the parents and children of a part: two steps that call each other until neither set grows.
+#![tactic(auto)]
+
 ghost use Rattle.std.specs.Prelude.{◌≡◌};
 ghost use Rattle.kin.specs.Critical.{criticalb, critical_at, Critical, CriticalRows};
 ghost use Rattle.kin.specs.Kin.{KinOf};
@@ -9,13 +11,13 @@ use board::{Board, Link};
 use budget::Budget;
 
 // The critical links as marks: bit q of `down[p]` and bit p of `up[q]` where one leads from p to q.
-#[derive(Drop)]
+#[derive(Clone, Copy)]
 pub struct Rows {
     pub down: [u64; 64],
     pub up: [u64; 64],
 }
 
-#[derive(Drop)]
+#[derive(Clone, Copy)]
 pub struct Kin {
     pub parents: u64,
     pub children: u64,

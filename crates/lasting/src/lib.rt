@@ -1,6 +1,8 @@
 // The last times that fit given loads, by the network turned round: each arc goes the other way, a part's start and its end change places, and so do
 // source and sink. Its first times, counted down from the deadline, are the last times of the network; with loads that are a reason they are the latest
 // of the cheapest. It knows no board.
+#![tactic(auto)]
+
 ghost use Rattle.std.specs.Prelude.{◌≡◌, ◌<◌};
 ghost use Rattle.deciding.specs.Raising.{FairIn};
 ghost use Rattle.lasting.specs.Turned.{opposite_of, turned_at, TurningIn, LastIn};

@@ -1,5 +1,7 @@
 // The latest end that given delays leave each part: the links are turned round, parts are timed from the deadline back, and what is left of the
 // deadline is each part's latest end.
+#![tactic(auto)]
+
 ghost use Rattle.std.specs.Prelude.{◌≡◌, ◌≤◌};
 ghost use Rattle.times.specs.Times.{Loopless};
 ghost use Rattle.late.specs.Late.{turned_link, Turned, left_of, LatestEndsOf};

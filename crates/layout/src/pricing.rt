@@ -2,7 +2,7 @@
 use crate::sheet::*;
 
 // Of the runs so far: ticks that save more than the load and ticks that save just that, by how much the load may rise, and the greatest saving below.
-#[derive(Drop)]
+#[derive(Clone, Copy)]
 struct Price {
     over: u32,
     just: u32,

@@ -31,7 +31,7 @@ pub(crate) fn arc_at(net: &[u32; 2048], work: &[u32; 968], a: usize) -> Arc
 }
 
 // Ticks that all save the same: from `begin` up to `end`.
-#[derive(Drop)]
+#[derive(Clone, Copy)]
 pub struct Run {
     pub begin: u32,
     pub end: u32,
@@ -74,7 +74,7 @@ pub(crate) fn run_at(net: &[u32; 2048], a: usize, j: u32) -> Run
 }
 
 // What is seen at arc `arc`: node `node` can be labelled, with this room; or where the room is 0, none can, and the labelled nodes may go down by the slack.
-#[derive(Drop)]
+#[derive(Clone, Copy)]
 pub struct Sight {
     pub arc: usize,
     pub node: usize,

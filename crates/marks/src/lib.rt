@@ -1,4 +1,6 @@
 // A set of 64 marks, bit n for part n. A number of 64 or more is in no set, and putting it in changes nothing.
+#![tactic(auto)]
+
 ghost use Rattle.std.specs.Prelude.{◌≡◌};
 ghost use Rattle.std.specs.Int.Count.{ones};
 ghost use Rattle.marks.specs.Marks.{has_of, union_of, without_of, one_of, insert_of, lowest_of};

@@ -1,4 +1,6 @@
 // Labels: looked up in a name sheet alone, for any line number, and handed back as that stretch of the sheet.
+#![tactic(auto)]
+
 ghost use Rattle.std.specs.Prelude.{◌≡◌, ◌+◌, ◌-◌, ◌≤◌, length, take, drop};
 ghost use Rattle.names.specs.Sheet.{first_line, from_line, all_plain, plain, label_of, label_place, label_answer};
 

@@ -1,5 +1,6 @@
 // A network of arcs on one sheet of numbers and the work on it on another: the layout that advice, main loop and verdict share, and one arc as it is
 // judged. The mathematics of networks stands in specs and proofs; there is next to no code here.
+#![tactic(auto)]
 
 // ---- the net: laid once, read by all
 pub const TAIL: usize = 0;
@@ -33,7 +34,7 @@ pub const ROOM: usize = 838;
 
 // All that the sheets say of one arc, for the function that judges arcs: its ends, the rooms of the labels behind and ahead (0: no label), its ticks
 // past the base, and its load.
-#[derive(Drop)]
+#[derive(Clone, Copy)]
 pub struct Arc {
     pub tail: usize,
     pub head: usize,

@@ -1,4 +1,6 @@
 // Reads and writes numbers at every boundary (01, Files; refusals 1 and 2) and prints a line for each.
+#![tactic(auto)]
+
 use console::PAGE;
 use groups::{GROUPS, Read};
 

@@ -1,4 +1,6 @@
 // An order as bytes: read alone, before it is tried, and written for tools and tests.
+#![tactic(auto)]
+
 ghost use Rattle.std.specs.Prelude.{◌≡◌, true, false, ◌++◌, length};
 ghost use Rattle.groups.specs.Number.{encode};
 ghost use Rattle.fields.specs.Parse.{stop};
@@ -11,7 +13,7 @@ use groups::Read;
 use refusal::{Answer, Why};
 
 // What an order would change: its place, and for all but a curve what is to stand there.
-#[derive(Drop)]
+#[derive(Clone, Copy)]
 pub enum Change {
     Deadline { deadline: Ticks },
     AddLink { from: usize, to: usize },
@@ -20,14 +22,14 @@ pub enum Change {
 }
 
 // A change with its new curve; the curve is blank where the change has none.
-#[derive(Drop)]
+#[derive(Clone, Copy)]
 pub struct Order {
     pub change: Change,
     pub curve: Curve,
 }
 
 // The order that some bytes begin with and the bytes it took, or the first fault with no bytes taken.
-#[derive(Drop)]
+#[derive(Clone, Copy)]
 pub struct OrderRead {
     pub answer: Answer,
     pub took: usize,

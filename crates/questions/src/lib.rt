@@ -1,4 +1,6 @@
 // Questions about a held board. Any desk may be asked and any number asked for: 11 where no board is held, 17 where the board has no such part.
+#![tactic(auto)]
+
 ghost use Rattle.std.specs.Prelude.{◌≡◌};
 ghost use Rattle.curve.specs.Curve.{Good};
 ghost use Rattle.curve.specs.Answers.{power_at_of};
@@ -16,35 +18,35 @@ use kin::Kin;
 use refusal::{Answer, Why};
 
 // A set of 64 marks, bit n for part n, and the number of parts marked.
-#[derive(Drop)]
+#[derive(Clone, Copy)]
 pub struct Marked {
     pub set: u64,
     pub count: u32,
 }
 
 // Upstream or downstream of a part. In this and all that follow the values are 0 where the question is refused.
-#[derive(Drop)]
+#[derive(Clone, Copy)]
 pub struct ConeAsked {
     pub answer: Answer,
     pub cone: Marked,
 }
 
 // Parents and children of a part.
-#[derive(Drop)]
+#[derive(Clone, Copy)]
 pub struct FamilyAsked {
     pub answer: Answer,
     pub parents: Marked,
     pub children: Marked,
 }
 
-#[derive(Drop)]
+#[derive(Clone, Copy)]
 pub struct PowerAsked {
     pub answer: Answer,
     pub power: Microwatts,
 }
 
 // What the held budget gives a part.
-#[derive(Drop)]
+#[derive(Clone, Copy)]
 pub struct PartAsked {
     pub answer: Answer,
     pub start: Ticks,
@@ -54,7 +56,7 @@ pub struct PartAsked {
 }
 
 // The rule, the deadline and how much of it is usable, how many parts and links there are, and what all parts draw together.
-#[derive(Drop)]
+#[derive(Clone, Copy)]
 pub struct WholeAsked {
     pub answer: Answer,
     pub rule: Rule,
@@ -66,7 +68,7 @@ pub struct WholeAsked {
 }
 
 // A link by its place among the links; no refusal is listed for a place past the last link, and `there` says that none is there.
-#[derive(Drop)]
+#[derive(Clone, Copy)]
 pub struct LinkAsked {
     pub answer: Answer,
     pub there: bool,

@@ -1,8 +1,10 @@
 // The refusals of documents 01 and 02, by name, in the order of its table. The place stands beside the name in every answer.
+#![tactic(auto)]
+
 ghost use Rattle.std.specs.Prelude.{◌≡◌};
 ghost use Rattle.refusal.specs.Refusal.{number_of};
 
-#[derive(Drop)]
+#[derive(Clone, Copy)]
 pub enum Why {
     CutShort,
     NotShortest,
@@ -30,7 +32,7 @@ pub enum Why {
 }
 
 // What a call comes to: it was done, or why it was refused and the refusal's place.
-#[derive(Drop)]
+#[derive(Clone, Copy)]
 pub enum Answer {
     Done,
     Refused { why: Why, place: usize },

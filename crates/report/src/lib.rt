@@ -1,5 +1,7 @@
 // Lines that several programs print: an answer, a path, what a budget gives a part. The text goes on a page that is lent (`console`), and
 // what comes back is how far it is filled.
+#![tactic(auto)]
+
 use console::PAGE;
 use curve::{Microwatts, Ticks};
 use refusal::{Answer, Why};
@@ -35,7 +37,7 @@ pub fn put_path(page: &mut [u8; PAGE], at: usize, path: Trail) -> usize {
 }
 
 // A part's times and power in a budget, as one line.
-#[derive(Drop)]
+#[derive(Clone, Copy)]
 pub struct Row {
     pub part: usize,
     pub start: Ticks,

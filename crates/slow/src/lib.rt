@@ -1,4 +1,6 @@
 // Whether all parts at their fastest keep the usable deadline, and the path to be shown where they do not.
+#![tactic(auto)]
+
 ghost use Rattle.std.specs.Prelude.{◌≡◌, ◌+◌, ◌≤◌, [], eqb, ltb};
 ghost use Rattle.base.specs.Pick.{pick};
 ghost use Rattle.base.specs.Table.{table};
@@ -13,7 +15,7 @@ use curve::Ticks;
 use times::{fastest_delays, times_of};
 
 // Whether a path is too slow; then its ticks and its parts from first to last, the first `count` of `path`. The rest is 0.
-#[derive(Drop)]
+#[derive(Clone, Copy)]
 pub struct ShownPath {
     pub slow: bool,
     pub ticks: u32,
@@ -22,7 +24,7 @@ pub struct ShownPath {
 }
 
 // Parts in the order of a path: the first `count` of `parts`.
-#[derive(Drop)]
+#[derive(Clone, Copy)]
 pub struct Trail {
     pub count: usize,
     pub parts: [usize; 64],

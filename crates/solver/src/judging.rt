@@ -10,7 +10,7 @@ use refusal::{Answer, Why};
 use slow::Trail;
 
 // What a board as a whole is refused for, with the path shown at refusal 10.
-#[derive(Drop)]
+#[derive(Clone, Copy)]
 pub(crate) struct Judged {
     pub answer: Answer,
     pub path: Trail,

@@ -4,6 +4,8 @@
 // finds loads that are taken.
 // It promises the budget and a flow that proves it cheapest. It does not promise which flow, nor how long it takes: only that it ends. It reads no
 // bytes, holds no board, and knows nothing of orders.
+#![tactic(auto)]
+
 mod advising;
 mod finding;
 mod judging;
@@ -23,7 +25,7 @@ use slow::Trail;
 
 // What a board comes to. The path is empty except at refusal 10. The flow, the loads of parts, links, entries and exits, shows why no budget is
 // cheaper. Where the board is refused, budget and flow are zeros.
-#[derive(Drop)]
+#[derive(Clone, Copy)]
 pub struct Solved {
     pub answer: Answer,
     pub path: Trail,
@@ -34,7 +36,7 @@ pub struct Solved {
 // What may be known of a board before it is solved, any numbers at all: loads of its arcs, and times of the nodes, of parts' starts and ends, source
 // and sink. Where the sink has none, all parts at their slowest are begun from. Loads that are ready are judged as they are, with no advice sought: so
 // trials reach the verdict and the main loop.
-#[derive(Drop)]
+#[derive(Clone, Copy)]
 pub struct Advice {
     pub loads: [u32; 448],
     pub times: [u32; 130],

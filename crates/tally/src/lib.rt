@@ -1,4 +1,6 @@
 // The tally lent: a load and an order that count where the tally stands, each one step of the desk with its tally stored back.
+#![tactic(auto)]
+
 ghost use Rattle.tally.specs.Lent.{LentLoad, LentOrder, SessionSaid};
 
 use desk::{Desk, Loaded, Ordered, Tally};
@@ -25,7 +27,7 @@ pub fn order(d: Desk, bytes: &[u8], t: &mut Tally) -> Ordered
 const RULE_A: u32 = 0;
 
 // What a session comes to: its last order, and the tally that was lent.
-#[derive(Drop)]
+#[derive(Clone, Copy)]
 pub struct SessionEnd {
     pub last: Ordered,
     pub tally: Tally,

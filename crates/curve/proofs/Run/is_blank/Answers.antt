@@ -1,0 +1,14 @@
+-- `curve::Run::is_blank` meets its contract.
+-- Assumes nothing.
+use Rattle.base.specs.Pick.{pick}
+use Rattle.base.proofs.Tests.{tests}
+use Rattle.curve.specs.Tests.{blankb}
+use Rattle.curve.proofs.Run.is_blank.Goals as goal
+
+pub returns-then-self-ne0 : goal.returns-then-self-ne0
+unfolding blankb pick
+returns-then-self-ne0 c = search tests
+
+pub returns : goal.returns
+unfolding blankb pick
+returns c = search tests

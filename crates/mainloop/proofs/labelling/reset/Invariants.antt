@@ -1,0 +1,12 @@
+-- What the loop keeps, and its measure.
+use Rattle.mainloop.proofs.labelling.Labelling.{Clearing}
+use lib.ListN.{length}
+use mathlib.Core.Path.{◌≡◌}
+use Prim.Native.Nat.{◌≤◌, ◌-◌}
+use Rattle.mainloop.proofs.labelling.reset.Given as goal
+
+abbrev pub invariant-loop-v : goal.invariant-loop-v
+invariant-loop-v l = (l.v ≤ 130) × ((length l.work ≡ 968) × Clearing l.v l.initial.work l.work)
+
+abbrev pub decreases-loop-v : goal.decreases-loop-v
+decreases-loop-v l = 130 - l.v
