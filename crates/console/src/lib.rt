@@ -1,45 +1,76 @@
 // Files in and text out, for the programs. Text is put on a page that is lent; `at` says how much of it is filled. A full page is
-// written out before the next byte, so that nothing that is put on it is lost.
+// written out before the next byte, so that nothing that is put on it is lost. A write that fails is kept in `Out`, for the program to end with.
 #![tactic(auto)]
 
-ghost use Rattle.std.specs.Prelude.{◌≡◌, [], ◌∷◌, ◌+◌, ◌/◌, ◌%◌, ◌<◌, take, set};
+ghost use Rattle.std.specs.Prelude.{◌≡◌, [], ◌∷◌, ◌+◌, ◌/◌, ◌%◌, ◌<◌, ◌↔◌, IsErr, take, set};
 ghost use Rattle.io.specs.Counts.{IsPrefixLen};
+ghost use Rattle.console.specs.Output.{HasFailed};
 ghost use Rattle.console.specs.Page.{spot_of, text_on, text_end, NumberPut, hex_digit, hex_of};
 
-use libc::STDOUT_FILENO;
+use std::fs::File;
+use std::io::{Error, Read, Result, Stdout, Write};
+use std::rt::Files;
+use std::str;
 
 pub const PAGE: usize = 65536;
 
 // ---- files
-// The first bytes of a file, as many as the buffer holds. A file that cannot be read is read as empty.
-pub fn read_file(path: &[u8], buf: &mut [u8]) -> usize
+// The first bytes of a file, as many as the buffer holds. A file that cannot be read is read as empty, and no path but text names one.
+pub fn read_file<R: Files>(rt: &R, path: &[u8], buf: &mut [u8]) -> usize
     ensures { IsPrefixLen result buf.new }
 {
-    let fd = os::open_read(path);
-    if fd < 0 {
+    let Some(mut file) = opened(rt, path) else {
         return 0;
+    };
+    read_full(&mut file, buf)
+}
+
+fn opened<R: Files>(rt: &R, path: &[u8]) -> Option<R::File> {
+    let name = str::from_utf8(path).ok()?;
+    File::open(rt, name).ok()
+}
+
+// Reads until the buffer is full, the file ends or a read fails, and returns how many bytes it put at the start of the buffer.
+pub fn read_full<R: Read>(file: &mut R, buf: &mut [u8]) -> usize
+    ensures { IsPrefixLen result buf.new }
+{
+    let mut done: usize = 0;
+    while done < buf.len() {
+        let n = read_some(file, &mut buf[done..]);
+        if n == 0 {
+            return done;
+        }
+        done = done + n;
     }
-    let n = io::read_full(fd, buf);
-    libc::close(fd);
-    n
+    done
+}
+
+// The bytes of one read. A read that fails gives none.
+fn read_some<R: Read>(file: &mut R, buf: &mut [u8]) -> usize
+    ensures { IsPrefixLen result buf.new }
+{
+    match file.read(buf) {
+        Ok(n) => n,
+        Err(_) => 0,
+    }
 }
 
 // The next bytes of a file, as many as are asked for, the buffer holds and the file has.
-pub fn read_next(fd: i32, count: usize, buf: &mut [u8]) -> usize
+pub fn read_next<R: Read>(file: &mut R, count: usize, buf: &mut [u8]) -> usize
     ensures { IsPrefixLen result buf.new }
 {
     if buf.len() < count {
-        return io::read_full(fd, buf);
+        return read_full(file, buf);
     }
-    io::read_full(fd, &mut buf[..count])
+    read_full(file, &mut buf[..count])
 }
 
 // The next record of a bundle, of the length that its first three bytes say, as much of it as the buffer holds.
-pub fn read_record(fd: i32, length: [u8; 4], buf: &mut [u8]) -> usize
+pub fn read_record<R: Read>(file: &mut R, length: [u8; 4], buf: &mut [u8]) -> usize
     ensures { IsPrefixLen result buf.new }
 {
     let n = sized(wide(length[0]), wide(length[1]), wide(length[2]));
-    read_next(fd, n, buf)
+    read_next(file, n, buf)
 }
 
 fn sized(low: usize, middle: usize, high: usize) -> usize
@@ -54,27 +85,72 @@ fn wide(byte: u8) -> usize
     byte as usize
 }
 
+// ---- where text goes
+// Standard output, and the error of the first write that failed: from then on nothing more is written.
+#[derive(Drop)]
+pub struct Out {
+    stdout: Stdout,
+    failed: Option<Error>,
+}
+
+// Nothing has failed yet.
+pub fn standard_out(rt: &HostRuntime) -> Out
+    ensures { ¬ (HasFailed result) }
+{
+    Out {
+        stdout: rt.stdout(),
+        failed: None,
+    }
+}
+
+// What a program ends with: the error of the first write that failed.
+pub fn outcome(out: Out) -> Result<()>
+    ensures { IsErr result ↔ HasFailed out }
+{
+    match out.failed {
+        Some(e) => Err(e),
+        None => Ok(()),
+    }
+}
+
+// Writes all bytes, where no write failed before.
+fn send(out: &mut Out, bytes: &[u8])
+    ensures { HasFailed out.old → HasFailed out.new }
+{
+    if out.failed.is_some() {
+        return;
+    }
+    if let Err(e) = out.stdout.write_all(bytes) {
+        out.failed = Some(e);
+    }
+}
+
 // ---- a page
 // Writes out what the page is filled with. The next text begins it anew, at 0.
-pub fn write_out(page: &[u8; PAGE], at: usize) {
-    write_first(page, at);
+pub fn write_out(out: &mut Out, page: &[u8; PAGE], at: usize)
+    ensures { HasFailed out.old → HasFailed out.new }
+{
+    write_first(out, page, at);
 }
 
 // The first bytes, or all where there are no more.
-fn write_first(bytes: &[u8], count: usize) {
+fn write_first(out: &mut Out, bytes: &[u8], count: usize)
+    ensures { HasFailed out.old → HasFailed out.new }
+{
     if count < bytes.len() {
-        io::write_all(STDOUT_FILENO, &bytes[..count]);
+        send(out, &bytes[..count]);
         return;
     }
-    io::write_all(STDOUT_FILENO, bytes);
+    send(out, bytes);
 }
 
 // One byte more, on a new page where this one is full.
-fn put(page: &mut [u8; PAGE], at: usize, byte: u8) -> usize
-    ensures { (result ≡ spot_of at + 1) × (page.new ≡ set page.old (spot_of at) byte) }
+fn put(out: &mut Out, page: &mut [u8; PAGE], at: usize, byte: u8) -> usize
+    ensures holds { (result ≡ spot_of at + 1) × (page.new ≡ set page.old (spot_of at) byte) }
+    ensures kept { HasFailed out.old → HasFailed out.new }
 {
     if PAGE <= at {
-        io::write_all(STDOUT_FILENO, page);
+        send(out, page);
         page[0] = byte;
         return 1;
     }
@@ -83,31 +159,34 @@ fn put(page: &mut [u8; PAGE], at: usize, byte: u8) -> usize
 }
 
 // A word as it stands.
-pub fn text(page: &mut [u8; PAGE], at: usize, word: &[u8]) -> usize
-    ensures { (result ≡ text_end at word.now) × (page.new ≡ text_on page.old at word.now) }
+pub fn text(out: &mut Out, page: &mut [u8; PAGE], at: usize, word: &[u8]) -> usize
+    ensures holds { (result ≡ text_end at word.now) × (page.new ≡ text_on page.old at word.now) }
+    ensures kept { HasFailed out.old → HasFailed out.new }
 {
     let mut end = at;
     let mut i: usize = 0;
     while i < word.len() {
-        end = put(page, end, word[i]);
+        end = put(out, page, end, word[i]);
         i = i + 1;
     }
     end
 }
 
 // A word, and then a number in decimal digits.
-pub fn number(page: &mut [u8; PAGE], at: usize, word: &[u8], n: u64) -> usize
-    ensures { NumberPut page.old at word.now n result page.new }
+pub fn number(out: &mut Out, page: &mut [u8; PAGE], at: usize, word: &[u8], n: u64) -> usize
+    ensures holds { NumberPut page.old at word.now n result page.new }
+    ensures kept { HasFailed out.old → HasFailed out.new }
 {
     let mut digits = [0u8; 20];
     let count = io::decimal(n, &mut digits);
-    let end = text(page, at, word);
-    text(page, end, &digits[..count])
+    let end = text(out, page, at, word);
+    text(out, page, end, &digits[..count])
 }
 
 // The first bytes, as many as are asked for and there are, each as two hex digits in lower case.
-pub fn hex(page: &mut [u8; PAGE], at: usize, bytes: &[u8], count: usize) -> usize
-    ensures { (result ≡ text_end at (hex_of (take count bytes.now))) × (page.new ≡ text_on page.old at (hex_of (take count bytes.now))) }
+pub fn hex(out: &mut Out, page: &mut [u8; PAGE], at: usize, bytes: &[u8], count: usize) -> usize
+    ensures holds { (result ≡ text_end at (hex_of (take count bytes.now))) × (page.new ≡ text_on page.old at (hex_of (take count bytes.now))) }
+    ensures kept { HasFailed out.old → HasFailed out.new }
 {
     let mut end = at;
     let mut i: usize = 0;
@@ -115,17 +194,18 @@ pub fn hex(page: &mut [u8; PAGE], at: usize, bytes: &[u8], count: usize) -> usiz
         if count <= i {
             return end;
         }
-        end = hex_byte(page, end, bytes[i]);
+        end = hex_byte(out, page, end, bytes[i]);
         i = i + 1;
     }
     end
 }
 
-fn hex_byte(page: &mut [u8; PAGE], at: usize, byte: u8) -> usize
-    ensures { (result ≡ spot_of (spot_of at + 1) + 1) × (page.new ≡ set (set page.old (spot_of at) (hex_digit (byte / 16))) (spot_of (spot_of at + 1)) (hex_digit (byte % 16))) }
+fn hex_byte(out: &mut Out, page: &mut [u8; PAGE], at: usize, byte: u8) -> usize
+    ensures holds { (result ≡ spot_of (spot_of at + 1) + 1) × (page.new ≡ set (set page.old (spot_of at) (hex_digit (byte / 16))) (spot_of (spot_of at + 1)) (hex_digit (byte % 16))) }
+    ensures kept { HasFailed out.old → HasFailed out.new }
 {
-    let end = put(page, at, hex_digit(byte / 16));
-    put(page, end, hex_digit(byte % 16))
+    let end = put(out, page, at, hex_digit(byte / 16));
+    put(out, page, end, hex_digit(byte % 16))
 }
 
 fn hex_digit(digit: u8) -> u8
@@ -135,8 +215,9 @@ fn hex_digit(digit: u8) -> u8
     if digit < 10 { 48 + digit } else { 87 + digit }
 }
 
-pub fn end_line(page: &mut [u8; PAGE], at: usize) -> usize
-    ensures { (result ≡ text_end at (10 ∷ [])) × (page.new ≡ text_on page.old at (10 ∷ [])) }
+pub fn end_line(out: &mut Out, page: &mut [u8; PAGE], at: usize) -> usize
+    ensures holds { (result ≡ text_end at (10 ∷ [])) × (page.new ≡ text_on page.old at (10 ∷ [])) }
+    ensures kept { HasFailed out.old → HasFailed out.new }
 {
-    put(page, at, 10)
+    put(out, page, at, 10)
 }
