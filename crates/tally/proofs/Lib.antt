@@ -1,8 +1,2 @@
-pub mod Outcome
-pub mod Contracts
-pub mod Thin
-pub mod ThinRuled
-pub mod Lending
-pub mod SessionWalk
 pub mod LentLaws
 pub mod SessionLaws

@@ -1,0 +1,7 @@
+-- `budget::no_budget` meets its contract.
+-- Assumes nothing.
+use Rattle.budget.proofs.Making.{none_made}
+use Rattle.budget.proofs.no_budget.Goals as goal
+
+pub returns : goal.returns
+returns c = search (none_made)

@@ -1,0 +1,5 @@
+use Rattle.orders.proofs.Writers.{three_counted}
+use Rattle.orders.proofs.link_size.Goals as goal
+
+pub returns : goal.returns
+returns c = search (three_counted)
