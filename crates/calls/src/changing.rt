@@ -1,7 +1,8 @@
 // Calls that change what is held: rule, drop, load, order and tally; and the counts of the tally.
 use crate::{Session, Told, Turn, input};
-use console::PAGE;
+use console::{Out, PAGE};
 use desk::Tally;
+use std::fs::File;
 
 // The greatest count that a tally holds, and the greatest number that may be named for a rule.
 const NUMBER_MAX: u64 = 4294967295;
@@ -16,8 +17,8 @@ fn cut_short(at: usize, s: Session) -> Turn {
 }
 
 // Names the rule of later loads.
-pub(crate) fn name_rule(fd: i32, at: usize, s: Session) -> Turn {
-    let rule = input::number(fd);
+pub(crate) fn name_rule(source: &mut File, at: usize, s: Session) -> Turn {
+    let rule = input::number(source);
     if !rule.there {
         return cut_short(at, s);
     }
@@ -49,17 +50,23 @@ pub(crate) fn drop_board(at: usize, s: Session) -> Turn {
     }
 }
 
-pub(crate) fn load(fd: i32, page: &mut [u8; PAGE], at: usize, s: Session) -> Turn {
+pub(crate) fn load(
+    source: &mut File,
+    out: &mut Out,
+    page: &mut [u8; PAGE],
+    at: usize,
+    s: Session,
+) -> Turn {
     let mut file = [0u8; 65536];
-    let given = input::stretch(fd, &mut file);
+    let given = input::stretch(source, &mut file);
     if !given.there {
         return cut_short(at, s);
     }
     let count = given.count;
-    loaded(page, at, s, &file[..count])
+    loaded(out, page, at, s, &file[..count])
 }
 
-fn loaded(page: &mut [u8; PAGE], at: usize, s: Session, file: &[u8]) -> Turn {
+fn loaded(out: &mut Out, page: &mut [u8; PAGE], at: usize, s: Session, file: &[u8]) -> Turn {
     let held = s.desk;
     let counted = s.tally;
     let l = desk::load(held, at_most(s.rule), file, counted);
@@ -67,10 +74,10 @@ fn loaded(page: &mut [u8; PAGE], at: usize, s: Session, file: &[u8]) -> Turn {
     let path = l.path;
     let desk = l.desk;
     let tally = l.tally;
-    let named = console::text(page, at, b"load");
-    let answered = report::put_answer(page, named, answer);
-    let shown = report::put_path(page, answered, path);
-    let end = console::end_line(page, shown);
+    let named = console::text(out, page, at, b"load");
+    let answered = report::put_answer(out, page, named, answer);
+    let shown = report::put_path(out, page, answered, path);
+    let end = console::end_line(out, page, shown);
     Turn {
         session: Session {
             desk,
@@ -82,17 +89,23 @@ fn loaded(page: &mut [u8; PAGE], at: usize, s: Session, file: &[u8]) -> Turn {
     }
 }
 
-pub(crate) fn order(fd: i32, page: &mut [u8; PAGE], at: usize, s: Session) -> Turn {
+pub(crate) fn order(
+    source: &mut File,
+    out: &mut Out,
+    page: &mut [u8; PAGE],
+    at: usize,
+    s: Session,
+) -> Turn {
     let mut bytes = [0u8; 65536];
-    let given = input::stretch(fd, &mut bytes);
+    let given = input::stretch(source, &mut bytes);
     if !given.there {
         return cut_short(at, s);
     }
     let count = given.count;
-    ordered(page, at, s, &bytes[..count])
+    ordered(out, page, at, s, &bytes[..count])
 }
 
-fn ordered(page: &mut [u8; PAGE], at: usize, s: Session, bytes: &[u8]) -> Turn {
+fn ordered(out: &mut Out, page: &mut [u8; PAGE], at: usize, s: Session, bytes: &[u8]) -> Turn {
     let held = s.desk;
     let counted = s.tally;
     let o = desk::order(held, bytes, counted);
@@ -101,11 +114,11 @@ fn ordered(page: &mut [u8; PAGE], at: usize, s: Session, bytes: &[u8]) -> Turn {
     let took = o.took;
     let desk = o.desk;
     let tally = o.tally;
-    let named = console::text(page, at, b"order");
-    let answered = report::put_answer(page, named, answer);
-    let shown = report::put_path(page, answered, path);
-    let taken = console::number(page, shown, b" took ", took as u64);
-    let end = put_tally(page, taken, b" tally ", tally);
+    let named = console::text(out, page, at, b"order");
+    let answered = report::put_answer(out, page, named, answer);
+    let shown = report::put_path(out, page, answered, path);
+    let taken = console::number(out, page, shown, b" took ", took as u64);
+    let end = put_tally(out, page, taken, b" tally ", tally);
     Turn {
         session: Session {
             desk,
@@ -117,16 +130,16 @@ fn ordered(page: &mut [u8; PAGE], at: usize, s: Session, bytes: &[u8]) -> Turn {
     }
 }
 
-fn put_tally(page: &mut [u8; PAGE], at: usize, word: &[u8], tally: Tally) -> usize {
-    let taken = console::number(page, at, word, tally.taken as u64);
-    let refused = console::number(page, taken, b" ", tally.refused as u64);
-    console::end_line(page, refused)
+fn put_tally(out: &mut Out, page: &mut [u8; PAGE], at: usize, word: &[u8], tally: Tally) -> usize {
+    let taken = console::number(out, page, at, word, tally.taken as u64);
+    let refused = console::number(out, page, taken, b" ", tally.refused as u64);
+    console::end_line(out, page, refused)
 }
 
 // Somebody writes to the tally.
-pub(crate) fn set_tally(fd: i32, at: usize, s: Session) -> Turn {
-    let taken = input::number(fd);
-    let refused = input::number(fd);
+pub(crate) fn set_tally(source: &mut File, at: usize, s: Session) -> Turn {
+    let taken = input::number(source);
+    let refused = input::number(source);
     if !refused.there {
         return cut_short(at, s);
     }
@@ -156,6 +169,6 @@ fn at_most(n: u64) -> u32 {
 }
 
 // What the tally holds.
-pub(crate) fn counts(page: &mut [u8; PAGE], at: usize, tally: Tally) -> Told {
-    crate::whole_call(put_tally(page, at, b"tally ", tally))
+pub(crate) fn counts(out: &mut Out, page: &mut [u8; PAGE], at: usize, tally: Tally) -> Told {
+    crate::whole_call(put_tally(out, page, at, b"tally ", tally))
 }

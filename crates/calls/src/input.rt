@@ -2,6 +2,8 @@
 ghost use Rattle.std.specs.Prelude.{◌≡◌, ◌+◌, ◌*◌, ◌<◌, min};
 ghost use Rattle.io.specs.Counts.{IsPrefixLen};
 
+use std::fs::File;
+
 // A byte or a number; `there` is false where the file ends before its last byte.
 #[derive(Clone, Copy)]
 pub(crate) struct Given {
@@ -16,9 +18,9 @@ pub(crate) struct Filled {
     pub count: usize,
 }
 
-pub(crate) fn byte(fd: i32) -> Given {
+pub(crate) fn byte(source: &mut File) -> Given {
     let mut one = [0u8; 1];
-    if io::read_full(fd, &mut one) < 1 {
+    if console::read_full(source, &mut one) < 1 {
         return missing();
     }
     Given {
@@ -35,9 +37,9 @@ fn missing() -> Given {
 }
 
 // A number of eight bytes, lowest first.
-pub(crate) fn number(fd: i32) -> Given {
+pub(crate) fn number(source: &mut File) -> Given {
     let mut eight = [0u8; 8];
-    if io::read_full(fd, &mut eight) < 8 {
+    if console::read_full(source, &mut eight) < 8 {
         return missing();
     }
     Given {
@@ -73,10 +75,10 @@ fn wide(byte: u8) -> u64
 }
 
 // A byte string after its length.
-pub(crate) fn stretch(fd: i32, buf: &mut [u8]) -> Filled
+pub(crate) fn stretch(source: &mut File, buf: &mut [u8]) -> Filled
     ensures { IsPrefixLen result.count buf.new }
 {
-    let length = number(fd);
+    let length = number(source);
     if !length.there {
         return Filled {
             there: false,
@@ -84,7 +86,7 @@ pub(crate) fn stretch(fd: i32, buf: &mut [u8]) -> Filled
         };
     }
     let n = length.value as usize;
-    let count = console::read_next(fd, n, buf);
+    let count = console::read_next(source, n, buf);
     Filled {
         there: count == n,
         count,

@@ -10,8 +10,10 @@ mod labelling;
 mod showing;
 mod writing;
 
-use console::PAGE;
+use console::{Out, PAGE};
 use desk::{Desk, Tally};
+use std::fs::File;
+use std::io::Result;
 
 // No file is as long: a bound for the proof that the program ends.
 const MOST: u64 = 18446744073709551615;
@@ -39,31 +41,31 @@ pub(crate) struct Turn {
     pub whole: bool,
 }
 
-fn main() {
-    let fd = os::open_read(b"calls.dat");
-    if fd < 0 {
-        return;
-    }
+fn main(rt: HostRuntime) -> Result<()> {
+    let Ok(mut source) = File::open(&rt, "calls.dat") else {
+        return Ok(());
+    };
+    let mut out = console::standard_out(&rt);
     let mut page = [0u8; PAGE];
-    let at = answer_calls(fd, &mut page);
-    console::write_out(&page, at);
-    libc::close(fd);
+    let at = answer_calls(&mut source, &mut out, &mut page);
+    console::write_out(&mut out, &page, at);
+    console::outcome(out)
 }
 
 // The calls one by one, as long as they last; one that is cut short or unknown ends them.
-fn answer_calls(fd: i32, page: &mut [u8; PAGE]) -> usize {
+fn answer_calls(source: &mut File, out: &mut Out, page: &mut [u8; PAGE]) -> usize {
     let mut session = begin();
     let mut at: usize = 0;
     let mut count: u64 = 0;
     while count < MOST {
-        let call = input::byte(fd);
+        let call = input::byte(source);
         if !call.there {
             return at;
         }
-        let turn = change(fd, page, at, call.value, session);
+        let turn = change(source, out, page, at, call.value, session);
         at = turn.at;
         if !turn.whole {
-            return console::text(page, at, b"stopped\n");
+            return console::text(out, page, at, b"stopped\n");
         }
         session = turn.session;
         count = count + 1;
@@ -86,15 +88,22 @@ fn begin() -> Session {
 }
 
 // Calls that change what is held; all others ask.
-fn change(fd: i32, page: &mut [u8; PAGE], at: usize, call: u64, s: Session) -> Turn {
+fn change(
+    source: &mut File,
+    out: &mut Out,
+    page: &mut [u8; PAGE],
+    at: usize,
+    call: u64,
+    s: Session,
+) -> Turn {
     match call {
-        1 => changing::name_rule(fd, at, s),
+        1 => changing::name_rule(source, at, s),
         2 => changing::drop_board(at, s),
-        3 => changing::load(fd, page, at, s),
-        4 => changing::order(fd, page, at, s),
-        5 => changing::set_tally(fd, at, s),
+        3 => changing::load(source, out, page, at, s),
+        4 => changing::order(source, out, page, at, s),
+        5 => changing::set_tally(source, at, s),
         _ => {
-            let told = ask(fd, page, at, call, s);
+            let told = ask(source, out, page, at, call, s);
             Turn {
                 session: s,
                 at: told.at,
@@ -105,20 +114,27 @@ fn change(fd: i32, page: &mut [u8; PAGE], at: usize, call: u64, s: Session) -> T
 }
 
 // Calls that ask; any other byte is no call.
-fn ask(fd: i32, page: &mut [u8; PAGE], at: usize, call: u64, s: Session) -> Told {
+fn ask(
+    source: &mut File,
+    out: &mut Out,
+    page: &mut [u8; PAGE],
+    at: usize,
+    call: u64,
+    s: Session,
+) -> Told {
     let d = s.desk;
     match call {
         6 => {
             let tally = s.tally;
-            changing::counts(page, at, tally)
+            changing::counts(out, page, at, tally)
         }
-        7 => asking::power(fd, page, at, d),
-        8 => asking::up(fd, page, at, d),
-        9 => asking::down(fd, page, at, d),
-        10 => asking::sets(fd, page, at, d),
-        11 => labelling::label(fd, page, at),
-        12 => writing::write(fd, page, at, d),
-        13 => showing::state(page, at, d),
+        7 => asking::power(source, out, page, at, d),
+        8 => asking::up(source, out, page, at, d),
+        9 => asking::down(source, out, page, at, d),
+        10 => asking::sets(source, out, page, at, d),
+        11 => labelling::label(source, out, page, at),
+        12 => writing::write(source, out, page, at, d),
+        13 => showing::state(out, page, at, d),
         _ => no_call(at),
     }
 }

@@ -1,52 +1,52 @@
 // What is held, each fact on a line. A request that brings another line adds it to `put_held`.
 use crate::{Told, asking, writing};
 use board::Rule;
-use console::PAGE;
+use console::{Out, PAGE};
 use desk::Desk;
 use report::Row;
 
-pub(crate) fn state(page: &mut [u8; PAGE], at: usize, d: Desk) -> Told {
+pub(crate) fn state(out: &mut Out, page: &mut [u8; PAGE], at: usize, d: Desk) -> Told {
     if d.held {
-        return crate::whole_call(put_held(page, at, d));
+        return crate::whole_call(put_held(out, page, at, d));
     }
-    crate::whole_call(console::text(page, at, b"held 0\n"))
+    crate::whole_call(console::text(out, page, at, b"held 0\n"))
 }
 
-fn put_held(page: &mut [u8; PAGE], at: usize, d: Desk) -> usize {
+fn put_held(out: &mut Out, page: &mut [u8; PAGE], at: usize, d: Desk) -> usize {
     let whole = questions::whole(d);
     let rule = whole.rule;
-    let held = console::text(page, at, b"held 1\n");
-    let ruled = put_rule(page, held, rule);
-    let due = console::number(page, ruled, b"deadline ", whole.deadline.0 as u64);
-    let usable = console::number(page, due, b" usable ", whole.usable.0 as u64);
-    let named = console::text(page, usable, b"\nfile ");
-    let filed = writing::put_file(page, named, d);
-    let ended = console::end_line(page, filed);
-    let parts = put_parts(page, ended, d, whole.parts);
-    let total = console::number(page, parts, b"total ", whole.total.0);
-    let summed = console::end_line(page, total);
-    let links = put_links(page, summed, d, whole.links);
-    put_sets(page, links, d, whole.parts)
+    let held = console::text(out, page, at, b"held 1\n");
+    let ruled = put_rule(out, page, held, rule);
+    let due = console::number(out, page, ruled, b"deadline ", whole.deadline.0 as u64);
+    let usable = console::number(out, page, due, b" usable ", whole.usable.0 as u64);
+    let named = console::text(out, page, usable, b"\nfile ");
+    let filed = writing::put_file(out, page, named, d);
+    let ended = console::end_line(out, page, filed);
+    let parts = put_parts(out, page, ended, d, whole.parts);
+    let total = console::number(out, page, parts, b"total ", whole.total.0);
+    let summed = console::end_line(out, page, total);
+    let links = put_links(out, page, summed, d, whole.links);
+    put_sets(out, page, links, d, whole.parts)
 }
 
-fn put_rule(page: &mut [u8; PAGE], at: usize, rule: Rule) -> usize {
+fn put_rule(out: &mut Out, page: &mut [u8; PAGE], at: usize, rule: Rule) -> usize {
     match rule {
-        Rule::A => console::text(page, at, b"rule A\n"),
-        Rule::B => console::text(page, at, b"rule B\n"),
+        Rule::A => console::text(out, page, at, b"rule A\n"),
+        Rule::B => console::text(out, page, at, b"rule B\n"),
     }
 }
 
-fn put_parts(page: &mut [u8; PAGE], at: usize, d: Desk, parts: usize) -> usize {
+fn put_parts(out: &mut Out, page: &mut [u8; PAGE], at: usize, d: Desk, parts: usize) -> usize {
     let mut end = at;
     let mut p: usize = 0;
     while p < parts {
-        end = put_part(page, end, d, p);
+        end = put_part(out, page, end, d, p);
         p = p + 1;
     }
     end
 }
 
-fn put_part(page: &mut [u8; PAGE], at: usize, d: Desk, p: usize) -> usize {
+fn put_part(out: &mut Out, page: &mut [u8; PAGE], at: usize, d: Desk, p: usize) -> usize {
     let asked = questions::part(d, p);
     let start = asked.start;
     let delay = asked.delay;
@@ -59,47 +59,48 @@ fn put_part(page: &mut [u8; PAGE], at: usize, d: Desk, p: usize) -> usize {
         end,
         power,
     };
-    report::put_row(page, at, row)
+    report::put_row(out, page, at, row)
 }
 
-fn put_links(page: &mut [u8; PAGE], at: usize, d: Desk, links: usize) -> usize {
+fn put_links(out: &mut Out, page: &mut [u8; PAGE], at: usize, d: Desk, links: usize) -> usize {
     let mut end = at;
     let mut l: usize = 0;
     while l < links {
-        end = put_link(page, end, d, l);
+        end = put_link(out, page, end, d, l);
         l = l + 1;
     }
     end
 }
 
-fn put_link(page: &mut [u8; PAGE], at: usize, d: Desk, l: usize) -> usize {
+fn put_link(out: &mut Out, page: &mut [u8; PAGE], at: usize, d: Desk, l: usize) -> usize {
     let asked = questions::link(d, l);
-    let from = console::number(page, at, b"link ", asked.from as u64);
-    let to = console::number(page, from, b" ", asked.to as u64);
+    let from = console::number(out, page, at, b"link ", asked.from as u64);
+    let to = console::number(out, page, from, b" ", asked.to as u64);
     if asked.critical {
-        return console::text(page, to, b" critical 1\n");
+        return console::text(out, page, to, b" critical 1\n");
     }
-    console::text(page, to, b" critical 0\n")
+    console::text(out, page, to, b" critical 0\n")
 }
 
-fn put_sets(page: &mut [u8; PAGE], at: usize, d: Desk, parts: usize) -> usize {
+fn put_sets(out: &mut Out, page: &mut [u8; PAGE], at: usize, d: Desk, parts: usize) -> usize {
     let mut end = at;
     let mut p: usize = 0;
     while p < parts {
-        end = put_set(page, end, d, p);
+        end = put_set(out, page, end, d, p);
         p = p + 1;
     }
     end
 }
 
-fn put_set(page: &mut [u8; PAGE], at: usize, d: Desk, p: usize) -> usize {
+fn put_set(out: &mut Out, page: &mut [u8; PAGE], at: usize, d: Desk, p: usize) -> usize {
     let up = questions::upstream(d, p).cone;
     let down = questions::downstream(d, p).cone;
     let family = questions::family(d, p);
-    let named = console::number(page, at, b"sets ", p as u64);
-    let above = asking::put_marked(page, named, b" up ", up.set, up.count);
-    let below = asking::put_marked(page, above, b" down ", down.set, down.count);
+    let named = console::number(out, page, at, b"sets ", p as u64);
+    let above = asking::put_marked(out, page, named, b" up ", up.set, up.count);
+    let below = asking::put_marked(out, page, above, b" down ", down.set, down.count);
     let parents = asking::put_marked(
+        out,
         page,
         below,
         b" parents ",
@@ -107,11 +108,12 @@ fn put_set(page: &mut [u8; PAGE], at: usize, d: Desk, p: usize) -> usize {
         family.parents.count,
     );
     let children = asking::put_marked(
+        out,
         page,
         parents,
         b" children ",
         family.children.set,
         family.children.count,
     );
-    console::end_line(page, children)
+    console::end_line(out, page, children)
 }
