@@ -21,7 +21,7 @@ ROOT = os.path.dirname(os.path.dirname(os.path.realpath(__file__)))
 TARGET = os.path.join(ROOT, "target")
 LOCK, STAMP, LOG = (os.path.join(TARGET, name) for name in ("front.lock", "front.stamp", "front.log"))
 PROGRAMS = ("boddivarn", "calls")
-INSTALL = "Install rattle-kit-5b and put its folder bin on PATH (docs/GUIDE.md, Installing)"
+INSTALL = "Install rattle-kit-13f and put its folder bin on PATH (docs/GUIDE.md, Installing)"
 SOURCES = ("src", "specs", "proofs", "data", "stdin", "stdout", "args")
 
 
@@ -141,24 +141,48 @@ def prove(lock):
         os.remove(STAMP)
     sources, total = sources_now(), len(crates_below()[0])
     say(f"proving and building the programs, {total} crates (from nothing some minutes, else what has changed)")
-    pipes = {"stdout": subprocess.PIPE, "stderr": subprocess.STDOUT}
-    command = subprocess.Popen(["rt", "check", *PROGRAMS], cwd=ROOT, pass_fds=[lock.fileno()], **pipes)
-    try:
-        said = follow(command, total)
-    except BaseException:
-        command.terminate()
-        raise
+    said, status = b"", 0
+    for program in PROGRAMS:
+        told, status = build_one(program, lock, total, said)
+        said += told
+        if status != 0:
+            break
+        put_in_place(program)
     with open(LOG, "wb") as file:
         file.write(said)
-    if command.wait() != 0:
+    if status != 0:
         raise CannotRun("the programs could not be proved and built:\n" + last_words(said) + f"\n(all of it is in {LOG})")
     with open(STAMP, "w", encoding="ascii") as file:
         file.write(f"{sources}\n{programs_now()}\n")
 
 
-def follow(command, total, every=20.0):
+def build_one(program, lock, total, before):
+    """What rt said, and its status. It proves what is below too, links the program into its crate's out/, and runs it there once, on no input."""
+    pipes = {"stdin": subprocess.DEVNULL, "stdout": subprocess.PIPE, "stderr": subprocess.STDOUT}
+    command = subprocess.Popen(["rt", "run"], cwd=os.path.join(ROOT, "crates", program), pass_fds=[lock.fileno()], **pipes)
+    try:
+        said = follow(command, total, proved_in(before))
+    except BaseException:
+        command.terminate()
+        raise
+    return said, command.wait()
+
+
+def put_in_place(program):
+    """At once, so that nobody meets a program that is half written."""
+    os.makedirs(os.path.join(TARGET, "bin"), exist_ok=True)
+    place = os.path.join(TARGET, "bin", program)
+    shutil.copy(os.path.join(ROOT, "crates", program, "out", program), place + ".new")
+    os.replace(place + ".new", place)
+
+
+def proved_in(said):
+    return len(re.findall(rb"^logic=proved", said, re.M))
+
+
+def follow(command, total, before, every=20.0):
     """What rt says, handed on as how far it is; a line now and then where it says nothing."""
-    said, began, spoke, done = b"", time.monotonic(), time.monotonic(), 0
+    said, began, spoke, done = b"", time.monotonic(), time.monotonic(), before
     while True:
         ready_now, _, _ = select.select([command.stdout], [], [], 1.0)
         if ready_now:
@@ -166,10 +190,9 @@ def follow(command, total, every=20.0):
             if not chunk:
                 return said
             said += chunk
-        proved = len(re.findall(rb"^rt: \w+ proved", said, re.M))
-        fresh = len(re.findall(rb"^rt: \w+ proved \(\d+ s\)", said, re.M))
+        proved = before + proved_in(said)
         now = time.monotonic()
-        if (proved > done and fresh) or now - spoke > every:
+        if proved > done or now - spoke > every:
             say(f"{proved} of {total} crates proved, {now - began:.0f} s")
             spoke = now
         done = proved

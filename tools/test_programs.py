@@ -11,19 +11,17 @@ import unittest
 HERE = os.path.dirname(os.path.abspath(__file__))
 ROOT = os.path.dirname(HERE)
 BOARD = "deadline 3\npart A fastest 1 power 0\n"
-# Takes a moment, counts its runs, and builds programs that print the board they were given.
+# Takes a moment, counts its runs, and builds programs that print the board they were given, one a call, in the folder where it is called.
 KIT = """#!/bin/sh
-echo run >>"$(dirname "$0")/runs"
-sleep "${SLOWLY:-0}"
+program=$(basename "$PWD")
+[ "$program" != boddivarn ] || echo run >>"$(dirname "$0")/runs"
+[ "$program" != boddivarn ] || sleep "${SLOWLY:-0}"
 [ -z "$BROKEN" ] || { echo "rt: low NOT PROVED (exit 1, 0 s)"; exit 1; }
-mkdir -p target/bin
-for program in boddivarn calls; do
-    printf '#!/bin/sh\\nsleep 0.2\\ncat crate 2>/dev/null; od -An -tx1 board.dat\\n' >"target/bin/$program.new"
-    chmod +x "target/bin/$program.new"
-    mv "target/bin/$program.new" "target/bin/$program"
-done
-echo "rt: low proved (0 s)"
-echo "rt: boddivarn proved (0 s)"
+mkdir -p out
+printf '#!/bin/sh\\nsleep 0.2\\ncat crate 2>/dev/null; od -An -tx1 board.dat\\n' >"out/$program"
+chmod +x "out/$program"
+[ "$program" != boddivarn ] || echo "logic=proved functions=1"
+[ "$program" != boddivarn ] || echo "logic=proved functions=2"
 """
 
 
@@ -152,7 +150,7 @@ class Building(unittest.TestCase):
     def test_without_the_kit(self):
         status, out, said = self.run_plan(kit=False)
         self.assertEqual((status, out), (3, ""))
-        self.assertIn("no 'rt' is on PATH. Install rattle-kit-5b", said)
+        self.assertIn("no 'rt' is on PATH. Install rattle-kit-13f", said)
         self.run_plan()
         self.assertEqual(self.run_plan(kit=False)[0], 0)  # once built it is not needed
 

@@ -1,6 +1,6 @@
 -- Rules: their numbers, and what each leaves of a deadline.
 -- Assumes nothing.
-use mathlib.Core.Path.{◌≡◌, refl, subst}
+use mathlib.Core.Path.{◌≡◌, refl}
 use Prim.Native.Nat.{ℕ, zero, suc, ◌≤◌}
 use native.Mathlib.Omega.{arith}
 use Rattle.base.specs.Pick.{pick}

@@ -1,12 +1,11 @@
 -- 01, The board: "Parts: 1 to 64, numbered from 0. Links: 0 to 256, from one part to another, no link twice, none from a part to itself, no loop.
 -- Links are held in ascending order of from, then to. A link has no delay. Deadline: 1 to 4,095 ticks." 02, Req 06: the rule beside the deadline.
 -- Assumes nothing.
-use Rattle.std.specs.Prelude.{◌≡◌, ◌≢◌, List, [], ℕ, suc, ◌+◌, ◌*◌, ◌-◌, ◌/◌, ◌≤◌, ◌<◌, eqb, length, get_or, replicate}
+use Rattle.std.specs.Prelude.{◌≡◌, ◌≢◌, [], ℕ, suc, ◌+◌, ◌*◌, ◌-◌, ◌/◌, ◌≤◌, ◌<◌, eqb, length, get_or, replicate}
 use Rattle.base.specs.Pick.{pick}
 use Rattle.theory.specs.Graph.{Graph}
 use Rattle.curve.specs.declared.Curve.{Curve}
 use Rattle.curve.specs.Curve.{Good, no_run, ticks_of, saving_of}
-use Rattle.curve.specs.declared.Ticks.{Ticks}
 use Rattle.board.specs.declared.Rule.{Rule}
 use Rattle.board.specs.declared.Rule.TheVariants.{A, B}
 use Rattle.board.specs.declared.Link.{Link}

@@ -1,6 +1,6 @@
 -- What the functions of this crate give: an empty board, and the tests that decide whether a board is well formed (proofs/TestLaws says that they do).
 -- Assumes nothing.
-use Rattle.std.specs.Prelude.{◌≡◌, Bool, true, false, List, ℕ, ◌-◌, ltb, leb, eqb, replicate}
+use Rattle.std.specs.Prelude.{Bool, true, false, List, ℕ, ◌-◌, ltb, leb, eqb, replicate}
 use Rattle.base.specs.Pick.{pick}
 pub use Rattle.base.specs.Decides.{Decides}
 use Rattle.curve.specs.Tests.{every, goodb}

@@ -1,6 +1,6 @@
 -- The greatest total is reached: by 64 parts that are flat, each at the greatest power.
 -- Assumes nothing.
-use mathlib.Core.Path.{◌≡◌, refl, sym, ap, ◌∙◌}
+use mathlib.Core.Path.{◌≡◌, refl, ap, ◌∙◌}
 use mathlib.Core.List.{List}
 use Prim.Native.Nat.{ℕ, ◌≤◌, ◌<◌}
 use native.Mathlib.Omega.{arith}
@@ -10,14 +10,14 @@ use Rattle.theory.proofs.SumLaws.{sum_ext, sum_const}
 use Rattle.curve.specs.declared.Ticks.{Ticks}
 use Rattle.curve.specs.declared.Microwatts.{Microwatts}
 use Rattle.curve.specs.declared.Curve.{Curve}
-use Rattle.curve.specs.Curve.{power_max, slowest_of, power_of, Good}
+use Rattle.curve.specs.Curve.{power_max, slowest_of}
 use Rattle.curve.specs.Answers.{flat_of}
 use Rattle.curve.specs.Rows.{ticks_at, power_at}
 use Rattle.curve.proofs.CurveLaws.{flat_good, flat_slowest, flat_power}
 use Rattle.board.specs.declared.Rule.TheVariants.{A}
 use Rattle.board.specs.declared.Link.{Link}
 use Rattle.board.specs.declared.Board.{Board}
-use Rattle.board.specs.Board.{WellFormed, no_curve, no_link, curve_at, view, usable_under, usable}
+use Rattle.board.specs.Board.{WellFormed, no_curve, no_link, view, usable_under, usable}
 use Rattle.budget.specs.declared.Budget.{Budget}
 use Rattle.budget.specs.Budget.{total_max, Holds}
 use Rattle.budget.proofs.BudgetLaws.{holds_exactly_one}

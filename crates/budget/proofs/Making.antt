@@ -23,7 +23,6 @@ use Rattle.curve.proofs.CurveLaws.{power_at_on}
 use Rattle.curve.proofs.RowLaws.{ticks, microwatts}
 use Rattle.board.specs.declared.Board.{Board}
 use Rattle.board.specs.Board.{curve_at}
-use Rattle.budget.specs.declared.Budget.{Budget}
 use Rattle.budget.specs.declared.Total.{Total}
 use Rattle.budget.specs.Made.{no_budget, drawn_of, delays_of, powers_of, total_of, budget_of}
 

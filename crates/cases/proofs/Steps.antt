@@ -21,7 +21,6 @@ use Rattle.board.specs.Board.{curve_at, usable, view}
 use Rattle.cone.specs.Cone.{Upstream, Downstream}
 use Rattle.cone.specs.Sweeps.{upstream_of, downstream_of}
 use Rattle.cone.proofs.Cones.{upstream_is, downstream_is}
-use Rattle.kin.specs.declared.Kin.{Kin}
 use Rattle.kin.specs.Critical.{Critical}
 use Rattle.kin.specs.Kin.{KinOf}
 use Rattle.budget.specs.declared.Budget.{Budget}
@@ -29,11 +28,8 @@ use Rattle.budget.specs.Made.{value_of}
 use Rattle.budget.proofs.BudgetLaws.{value_allowed}
 use Rattle.desk.specs.declared.Tally.{Tally}
 use Rattle.desk.specs.declared.Desk.{Desk}
-use Rattle.desk.specs.declared.Loaded.{Loaded}
 use Rattle.desk.specs.declared.Ordered.{Ordered}
 use Rattle.desk.specs.Held.{Standing, holding}
-use Rattle.questions.specs.declared.ConeAsked.{ConeAsked}
-use Rattle.questions.specs.declared.FamilyAsked.{FamilyAsked}
 use Rattle.questions.specs.declared.PowerAsked.{PowerAsked}
 use Rattle.questions.specs.Tried.{part_tried, Said}
 use Rattle.questions.specs.Sets.{cone_refused, ConeGiven, UpstreamSaid, DownstreamSaid, family_refused, FamilyGiven, FamilySaid}

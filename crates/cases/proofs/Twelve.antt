@@ -2,7 +2,7 @@
 -- The idea: from a load on, the desk holds a board that was worked out (`At`, `Known`), so its budget is the one worked out, and each answer is
 -- computed. The subtle point: that no other budget is held is a computed test of every budget of the board (`Best.best`).
 -- Assumes nothing.
-use mathlib.Core.Path.{◌≡◌, refl, ap}
+use mathlib.Core.Path.{◌≡◌, refl}
 use mathlib.Core.List.{List, [], ◌∷◌}
 use Prim.Native.Nat.{ℕ, ◌+◌, ◌<◌}
 use lib.Count.{ones, ones_in}

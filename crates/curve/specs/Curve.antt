@@ -1,10 +1,8 @@
 -- 01, The board: "A part's curve: fastest delay 1 to 1,023 ticks; power at the fastest ..; 0 to 4 runs."
 -- Assumes nothing.
-use Rattle.std.specs.Prelude.{◌≡◌, List, ℕ, suc, ◌+◌, ◌*◌, ◌-◌, ◌≤◌, ◌<◌, length, get_or}
+use Rattle.std.specs.Prelude.{◌≡◌, ℕ, suc, ◌+◌, ◌*◌, ◌-◌, ◌≤◌, ◌<◌, length, get_or}
 use Rattle.theory.specs.Sum.{sum}
 use Rattle.theory.specs.Saving.{saves, tick}
-use Rattle.curve.specs.declared.Ticks.{Ticks}
-use Rattle.curve.specs.declared.Microwatts.{Microwatts}
 use Rattle.curve.specs.declared.Run.{Run}
 use Rattle.curve.specs.declared.Curve.{Curve}
 

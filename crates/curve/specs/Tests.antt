@@ -1,10 +1,10 @@
 -- `Good` as a test that code can run: `goodb c` is true exactly of the good curves (`goodb_good`, `good_goodb`).
 -- Assumes nothing.
-use Rattle.std.specs.Prelude.{Bool, true, false, ℕ, zero, suc, ◌-◌, ◌≤◌, ◌<◌, ltb, leb, eqb, length}
+use Rattle.std.specs.Prelude.{Bool, true, false, ℕ, zero, suc, ◌-◌, ltb, leb, eqb, length}
 use Rattle.base.specs.Pick.{pick}
 use Rattle.curve.specs.declared.Run.{Run}
 use Rattle.curve.specs.declared.Curve.{Curve}
-use Rattle.curve.specs.Curve.{power_max, run_at, length_at, saving_at, savings_of}
+use Rattle.curve.specs.Curve.{power_max, run_at, saving_at, savings_of}
 
 abbrev pub both : Bool → Bool → Bool
 both a b = pick a b false

@@ -1,8 +1,8 @@
 -- Two orders at different places end alike, whichever is made first.
 -- Assumes nothing.
-use mathlib.Core.Path.{◌≡◌, refl, sym, ap, subst, ◌∙◌}
+use mathlib.Core.Path.{◌≡◌, refl, sym, ap, ◌∙◌}
 use mathlib.Core.Logic.{◌≢◌}
-use mathlib.Core.List.{List, []}
+use mathlib.Core.List.{List}
 use Prim.Native.Nat.{ℕ}
 use Rattle.curve.specs.declared.Curve.{Curve}
 use Rattle.board.specs.declared.Board.{Board}
@@ -17,7 +17,7 @@ use Rattle.desk.specs.declared.Ordered.{Ordered}
 use Rattle.desk.specs.Held.{Holding}
 use Rattle.desk.specs.Order.{change_made, changed_of, one_taken}
 use Rattle.demands.specs.Same.{SameEnd}
-use Rattle.demands.specs.Orders.{Place, the_curve, place_of, Apart, Reads, Makes}
+use Rattle.demands.specs.Orders.{the_curve, place_of, Apart, Reads, Makes}
 use Rattle.desk.proofs.Tried.{Fits, tried_fits}
 use Rattle.demands.proofs.Once.{one_board}
 use Rattle.demands.proofs.Steps.{Stepped, makes_stepped}

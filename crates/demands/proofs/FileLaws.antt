@@ -20,7 +20,7 @@ use Rattle.design_write.specs.Write.{write_of, buffer_of}
 use Rattle.desk.specs.declared.Tally.{Tally}
 use Rattle.desk.specs.declared.Desk.{Desk}
 use Rattle.desk.specs.declared.Loaded.{Loaded}
-use Rattle.desk.specs.Held.{Holding, Standing, holding}
+use Rattle.desk.specs.Held.{Holding, holding}
 use Rattle.desk.specs.Load.{LoadSaid}
 use Rattle.desk.specs.Write.{written_of, after_write, WriteGiven}
 use Rattle.desk.proofs.Tried.{never}

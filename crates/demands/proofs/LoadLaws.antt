@@ -4,9 +4,8 @@ use mathlib.Core.Path.{◌≡◌, refl, sym, ap, subst, ◌∙◌}
 use mathlib.Core.List.{List}
 use Prim.Native.Nat.{ℕ}
 use lib.ListN.{length}
-use Rattle.refusal.specs.declared.Why.{Why}
 use Rattle.refusal.specs.declared.Answer.{Answer}
-use Rattle.refusal.specs.declared.Answer.TheVariants.{Done, Refused}
+use Rattle.refusal.specs.declared.Answer.TheVariants.{Done}
 use Rattle.board.specs.declared.Rule.{Rule}
 use Rattle.board.specs.declared.Board.{Board}
 use Rattle.board.specs.Board.{WellFormed, rule_number, under_rule}
@@ -17,8 +16,7 @@ use Rattle.design.proofs.DesignLaws.{written_read, written_read_under}
 use Rattle.desk.specs.declared.Tally.{Tally}
 use Rattle.desk.specs.declared.Desk.{Desk}
 use Rattle.desk.specs.declared.Loaded.{Loaded}
-use Rattle.desk.specs.Held.{Holding}
-use Rattle.desk.specs.Load.{no_tally, tally_loaded, LoadJudged, LoadParsed, LoadRead, LoadSaid}
+use Rattle.desk.specs.Load.{tally_loaded, LoadJudged, LoadParsed, LoadRead, LoadSaid}
 use Rattle.desk.specs.Load as load
 use Rattle.solver.proofs.VerdictLaws.{verdict_done}
 use Rattle.desk.proofs.Tried.{never}

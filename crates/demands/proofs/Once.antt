@@ -1,7 +1,7 @@
 -- Two results that one input allows are the same but for the advice, and a refused call leaves what is held as it was.
 -- Assumes nothing.
 use mathlib.Core.Path.{◌≡◌, refl, sym, ap, subst, ◌∙◌}
-use mathlib.Core.Bool.{Bool, true, false}
+use mathlib.Core.Bool.{true}
 use mathlib.Core.List.{List, []}
 use Prim.Native.Nat.{ℕ}
 use native.Mathlib.Omega.{arith}
@@ -14,7 +14,6 @@ use Rattle.board.specs.Board.{WellFormed}
 use Rattle.board.proofs.UsableLaws.{one_rule}
 use Rattle.slow.specs.declared.Trail.{Trail}
 use Rattle.slow.specs.Walk.{trail_of}
-use Rattle.budget.specs.declared.Budget.{Budget}
 use Rattle.budget.specs.Budget.{Holds}
 use Rattle.budget.proofs.BudgetLaws.{holds_once}
 use Rattle.fields.specs.Parse.{Parse, got, stop}
@@ -29,12 +28,12 @@ use Rattle.desk.specs.declared.Loaded.{Loaded}
 use Rattle.desk.specs.declared.Ordered.{Ordered}
 use Rattle.desk.specs.Held.{Holding, Standing, empty, holding}
 use Rattle.desk.specs.Judged.{BoardJudged}
-use Rattle.desk.specs.Load.{load_refused, tally_loaded, LoadJudged, LoadParsed, LoadRead, LoadSaid}
+use Rattle.desk.specs.Load.{tally_loaded, LoadJudged, LoadParsed, LoadRead, LoadSaid}
 use Rattle.desk.specs.Order.{changed_of, tried_of, refused_tally, tally_ordered, order_refused, OrderJudged, OrderTried, OrderParsed, OrderSaid}
 use Rattle.desk.specs.Load as load
 use Rattle.demands.specs.Same.{SameDesk, SameLoaded, SameOrdered}
 use Rattle.solver.proofs.VerdictLaws.{verdict_once}
-use Rattle.desk.proofs.Tried.{never, Passed, tried_passed, tried_fits, changed_well}
+use Rattle.desk.proofs.Tried.{tried_passed, tried_fits, changed_well}
 
 -- ---- desks with one board
 pub same_desk : (d d' : Desk) → d ≡ d' → SameDesk d d'

@@ -1,6 +1,6 @@
 -- After any list of orders the desk holds the board as it stands with the budget that is its own, and the tally counts the orders.
 -- Assumes nothing.
-use mathlib.Core.Path.{◌≡◌, refl, sym, ap, ◌∙◌}
+use mathlib.Core.Path.{◌≡◌, refl, ap}
 use mathlib.Core.Bool.{Bool, true, false}
 use mathlib.Core.List.{List, [], ◌∷◌}
 use Prim.Native.Nat.{ℕ, ◌+◌}
@@ -20,11 +20,11 @@ use Rattle.desk.specs.declared.Tally.{Tally}
 use Rattle.desk.specs.declared.Desk.{Desk}
 use Rattle.desk.specs.declared.Loaded.{Loaded}
 use Rattle.desk.specs.declared.Ordered.{Ordered}
-use Rattle.desk.specs.Held.{Holding, Standing, empty, holding}
+use Rattle.desk.specs.Held.{Holding, Standing, holding}
 use Rattle.desk.specs.Judged.{BoardJudged}
-use Rattle.desk.specs.Load.{no_tally, LoadJudged, LoadParsed, LoadSaid}
+use Rattle.desk.specs.Load.{no_tally, LoadParsed, LoadSaid}
 use Rattle.desk.specs.Load as load
-use Rattle.desk.specs.Order.{changed_of, tried_of, counts, one_taken, refused_tally, tally_ordered, order_refused, OrderJudged, OrderTried, OrderParsed, OrderSaid}
+use Rattle.desk.specs.Order.{changed_of, tried_of, counts, refused_tally, tally_ordered, order_refused, OrderJudged, OrderTried, OrderParsed, OrderSaid}
 use Rattle.demands.specs.Reached.{Reached, loaded, ordered, Counting, since, after, taken_by, refused_by, taken_in, refused_in, Tallied}
 use Rattle.demands.proofs.LoadLaws.{load_accepted}
 

@@ -1,7 +1,7 @@
 -- Demand 2: "A well-formed, loop-free board is refused for time exactly when some path at its fastest is too slow, and that path is shown", of
 -- loads and of orders.
 -- Assumes nothing.
-use mathlib.Core.Path.{◌≡◌, refl, sym, subst, ◌∙◌}
+use mathlib.Core.Path.{◌≡◌, refl, sym, subst}
 use mathlib.Core.List.{List}
 use Prim.Native.Nat.{ℕ}
 use native.Mathlib.Omega.{arith}

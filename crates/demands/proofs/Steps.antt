@@ -2,16 +2,12 @@
 -- Assumes nothing.
 use mathlib.Core.Path.{◌≡◌, refl, sym, ap, subst, ◌∙◌}
 use mathlib.Core.Logic.{◌↔◌}
-use mathlib.Core.List.{List, []}
+use mathlib.Core.List.{List}
 use Prim.Native.Nat.{ℕ}
-use Rattle.refusal.specs.declared.Why.{Why}
 use Rattle.refusal.specs.declared.Answer.{Answer}
 use Rattle.refusal.specs.declared.Answer.TheVariants.{Done, Refused}
-use Rattle.theory.specs.Graph.{Times}
 use Rattle.theory.specs.Budget.{Budget}
 use Rattle.board.specs.declared.Board.{Board}
-use Rattle.board.specs.Board.{usable, view, WellFormed}
-use Rattle.board.specs.Leads.{LoopFree}
 use Rattle.budget.specs.declared.Budget as value
 use Rattle.budget.specs.Made.{times_in}
 use Rattle.budget.proofs.BudgetLaws.{allowed_budget}
@@ -22,7 +18,7 @@ use Rattle.desk.specs.declared.Tally.{Tally}
 use Rattle.desk.specs.declared.Desk.{Desk}
 use Rattle.desk.specs.declared.Ordered.{Ordered}
 use Rattle.desk.specs.Held.{Kept, Holding}
-use Rattle.desk.specs.Order.{changed_of, tried_of, one_taken, tally_ordered, order_refused, OrderJudged, OrderTried, OrderParsed, OrderSaid}
+use Rattle.desk.specs.Order.{changed_of, tried_of, one_taken, tally_ordered, OrderJudged, OrderTried, OrderParsed, OrderSaid}
 use Rattle.demands.specs.Boards.{Plannable}
 use Rattle.demands.specs.Orders.{Reads, Makes, Allows, MayBeMade, ChangesOnly}
 use Rattle.solver.proofs.VerdictLaws.{verdict_done}

@@ -3,15 +3,12 @@
 -- Assumes nothing.
 use mathlib.Core.Path.{◌≡◌, refl, sym, ap, subst, ◌∙◌}
 use mathlib.Core.Logic.{⊎_elim, ◌≢◌}
-use mathlib.Core.List.{List, []}
+use mathlib.Core.List.{List}
 use Prim.Native.Nat.{ℕ, ◌+◌, ◌≤◌, ◌<◌}
 use native.Mathlib.Omega.{arith}
 use native.Mathlib.Nat.{le_refl}
 use lib.ListN.{get_or}
 use Rattle.base.proofs.Cases.{eq_or_ne}
-use Rattle.refusal.specs.declared.Answer.TheVariants.{Done}
-use Rattle.theory.specs.Graph.{Times}
-use Rattle.theory.specs.Budget.{Budget}
 use Rattle.theory.proofs.Tightening.{Tighter, tighter_possible}
 use Rattle.curve.specs.declared.Curve.{Curve}
 use Rattle.board.specs.declared.Link.{Link}
@@ -21,7 +18,7 @@ use Rattle.board.proofs.UsableLaws.{usable_lower}
 use Rattle.board.proofs.SameBoard.{linked_whole}
 use Rattle.board.specs.Leads.{Leads, one, more, LoopFree}
 use Rattle.board.proofs.Lawful.{lawful}
-use Rattle.edits.specs.Changes.{Addable, LinksOnly, LinkAdded, LinkRemoved, CurveChanged, DeadlineChanged}
+use Rattle.edits.specs.Changes.{Addable}
 use Rattle.orders.specs.declared.Change.{Change}
 use Rattle.orders.specs.declared.Change.TheVariants.{Deadline, AddLink, RemoveLink, NewCurve}
 use Rattle.orders.specs.declared.Order.{Order}
@@ -31,10 +28,9 @@ use Rattle.desk.specs.declared.Tally.{Tally}
 use Rattle.desk.specs.declared.Desk.{Desk}
 use Rattle.desk.specs.declared.Ordered.{Ordered}
 use Rattle.desk.specs.Held.{Holding}
-use Rattle.desk.specs.Order.{changed_of, place_tried, one_taken, OrderSaid}
-use Rattle.demands.specs.Same.{SameEnd}
+use Rattle.desk.specs.Order.{changed_of, OrderSaid}
 use Rattle.demands.specs.Boards.{Plannable}
-use Rattle.demands.specs.Orders.{OtherWay, Place, the_link, the_curve, place_of, Apart, change_seen, ChangesOnly, change_tightens, Tightens, Reads, Makes}
+use Rattle.demands.specs.Orders.{OtherWay, the_link, the_curve, place_of, Apart, change_seen, ChangesOnly, change_tightens, Tightens, Reads, Makes}
 use Rattle.desk.proofs.Tried.{Passed, Fits, tried_fits, fits_tried, changed_well}
 use Rattle.demands.proofs.Tried.{changed_only}
 use Rattle.demands.proofs.Steps.{kept_plannable, Stepped, makes_stepped, said_makes}

@@ -2,7 +2,7 @@
 -- rewritten byte for byte.
 -- Assumes nothing.
 use mathlib.Core.Path.{◌≡◌, refl, sym, ap, ◌∙◌}
-use mathlib.Core.Bool.{Bool, true, false}
+use mathlib.Core.Bool.{true, false}
 use mathlib.Core.Logic.{◌≢◌}
 use mathlib.Core.List.{List, ◌++◌}
 use Prim.Native.Nat.{ℕ, zero, suc, ◌+◌, ◌*◌, ◌-◌, ◌≤◌, ◌<◌}
@@ -16,11 +16,10 @@ use Rattle.groups.specs.Number.{groups, number_at, encode}
 use Rattle.groups.proofs.RoundTrip.{Bytes}
 use Rattle.curve.specs.declared.Curve.{Curve}
 use Rattle.curve.specs.Curve.{Good}
-use Rattle.fields.specs.Parse.{Parse, got, and_then, number, field_at}
+use Rattle.fields.specs.Parse.{got, and_then, number, field_at}
 use Rattle.fields.specs.CurveFile.{curve_bytes}
 use Rattle.fields.proofs.ParseLaws.{then_got, number_read, pick_passed, pick_not_stopped, got_same, field_got}
 use Rattle.fields.proofs.Stands.{Stands, stands_first, stands_then, stands_join, stands_front, stands_whole, number_reads, number_stands, field_reads_back, field_stands, field_next}
-use Rattle.fields.proofs.Filling.{Filling}
 use Rattle.fields.proofs.WritingLaws.{row_size}
 use Rattle.fields.proofs.CurveFileLaws.{curve_good, curve_next, curve_reads_back, curve_writes_back, curve_size_le, size_to_1, size_to_2}
 use Rattle.board.specs.declared.Rule.{Rule}

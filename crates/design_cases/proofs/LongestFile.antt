@@ -1,11 +1,9 @@
 -- The longest file there may be (`file_size_le`) is the file of some board: 64 parts and 256 links, every number at its greatest size.
 -- Assumes nothing.
-use mathlib.Core.Path.{◌≡◌, refl, sym, ap, ◌∙◌}
-use mathlib.Core.Logic.{◌≢◌}
+use mathlib.Core.Path.{◌≡◌, refl, ap, ◌∙◌}
 use mathlib.Core.List.{List, [], ◌∷◌, ◌++◌}
-use Prim.Native.Nat.{ℕ, zero, suc, ◌+◌, ◌*◌, ◌/◌, ◌%◌, ◌≤◌, ◌<◌}
+use Prim.Native.Nat.{ℕ, zero, suc, ◌+◌, ◌*◌, ◌/◌, ◌%◌, ◌<◌}
 use native.Mathlib.Omega.{arith}
-use lib.Dec.{leb}
 use lib.ListN.{length, get_or, replicate, length-append, length-replicate, get_or-replicate}
 use Rattle.base.specs.Pick.{pick}
 use Rattle.groups.specs.Number.{groups, encode_in, encode}
@@ -20,7 +18,7 @@ use Rattle.fields.specs.CurveFile.{runs_bytes, curve_bytes}
 use Rattle.board.specs.declared.Rule.TheVariants.{A}
 use Rattle.board.specs.declared.Link.{Link}
 use Rattle.board.specs.declared.Board.{Board}
-use Rattle.board.specs.Board.{no_curve, no_link, curve_at, link_at, delay_of, order, WellFormed}
+use Rattle.board.specs.Board.{no_curve, no_link, curve_at, link_at, delay_of, WellFormed}
 use Rattle.design.specs.Design.{link_bytes, parts_bytes, links_bytes, linked_bytes, body_bytes, head_bytes, file_of}
 use Rattle.design_cases.specs.Boards.{run, link}
 

@@ -1,10 +1,9 @@
 -- What is known of an order that no refusal but 9 and 10 meets, and the board as it then is.
 -- Assumes nothing.
-use mathlib.Core.Path.{◌≡◌, refl, sym, ap, ◌∙◌}
+use mathlib.Core.Path.{◌≡◌, refl}
 use mathlib.Core.Bool.{Bool, true, false}
-use Prim.Native.Nat.{ℕ, ◌+◌, ◌≤◌, ◌<◌}
+use Prim.Native.Nat.{ℕ, ◌+◌, ◌<◌}
 use native.Mathlib.Omega.{arith}
-use lib.Dec.{ltb, leb, eqb}
 use borrow.Author.Tests.{ltb-true, leb-false, eqb-false, lt-ltb, lt-leb, ne_eqb}
 use Rattle.base.specs.Pick.{pick}
 use Rattle.refusal.specs.declared.Why.{Why}
@@ -12,8 +11,7 @@ use Rattle.refusal.specs.declared.Answer.{Answer}
 use Rattle.refusal.specs.declared.Answer.TheVariants.{Done, Refused}
 use Rattle.curve.specs.declared.Curve.{Curve}
 use Rattle.board.specs.declared.Board.{Board}
-use Rattle.board.specs.Board.{plain_link, Linked, WellFormed}
-use Rattle.edits.specs.Edits.{has_link_of, with_deadline_of, with_curve_of, with_link_of, without_link_of}
+use Rattle.board.specs.Board.{Linked, WellFormed}
 use Rattle.edits.specs.Changes.{Addable}
 use Rattle.edits.proofs.Places.{has_linked, linked_has, missing_false}
 use Rattle.edits.proofs.PlainEdits.{with_deadline_well, with_curve_well}

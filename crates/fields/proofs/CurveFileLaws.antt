@@ -1,6 +1,6 @@
 -- A curve as bytes: what is read is a good curve, a good curve written is read back, and what is read is rewritten byte for byte.
 -- Assumes nothing.
-use mathlib.Core.Path.{◌≡◌, refl, ap, ◌∙◌}
+use mathlib.Core.Path.{◌≡◌, ap, ◌∙◌}
 use mathlib.Core.List.{List, [], ◌++◌}
 use Prim.Native.Nat.{ℕ, ◌+◌, ◌-◌, ◌≤◌, ◌<◌}
 use native.Mathlib.Omega.{arith}
@@ -15,12 +15,12 @@ use Rattle.groups.proofs.RoundTrip.{Bytes}
 use Rattle.curve.specs.declared.Run.{Run}
 use Rattle.curve.specs.declared.Curve.{Curve}
 use Rattle.curve.specs.Curve.{power_max, no_run, run_at, length_at, saving_at, savings_of, Good}
-use Rattle.fields.specs.Parse.{Parse, got, and_then, field_at}
+use Rattle.fields.specs.Parse.{got, and_then, field_at}
 use Rattle.fields.specs.CurveFile.{runs_from, curve_from, run_bytes, runs_bytes, numbers_of, curve_bytes}
 use Rattle.fields.proofs.ParseLaws.{then_got, pick_passed, got_same, field_got}
 use Rattle.fields.proofs.Stands.{Stands, stands_first, stands_then, stands_join, field_reads_back, field_stands, field_next}
 use Rattle.fields.proofs.WritingLaws.{row_size}
-use Rattle.fields.proofs.Filling.{Filling, filling_all}
+use Rattle.fields.proofs.Filling.{filling_all}
 use Rattle.fields.proofs.RunLaws.{RunsRead, runs_read, runs_back}
 
 -- ---- a curve that was read, field by field

@@ -18,7 +18,7 @@ use Rattle.groups.proofs.RoundTrip.{Bytes}
 use Rattle.curve.specs.declared.Run.{Run}
 use Rattle.curve.specs.declared.Curve.{Curve}
 use Rattle.curve.specs.Curve.{no_run, run_at, length_at, saving_at, Good}
-use Rattle.fields.specs.Parse.{Parse, got, and_then, repeat, field_at}
+use Rattle.fields.specs.Parse.{got, and_then, repeat, field_at}
 use Rattle.fields.specs.CurveFile.{bare, with_run, falls, run_from, runs_bytes}
 use Rattle.fields.specs.Writing.{in_row}
 use Rattle.fields.proofs.ParseLaws.{then_got, pick_passed, got_same, repeat_keeps, field_got}

@@ -5,12 +5,12 @@ use mathlib.Core.List.{List, [], ◌∷◌, ◌++◌, append_assoc}
 use Prim.Native.Nat.{ℕ, ◌+◌, ◌-◌, ◌≤◌, ◌<◌}
 use native.Mathlib.Omega.{arith}
 use native.Mathlib.Nat.{add-zero}
-use lib.ListN.{length, drop, length-append, length-drop, take-append-drop}
+use lib.ListN.{length, drop, length-append, take-append-drop}
 use lib.Seq.{drop-drop, drop-append_seam}
 use Rattle.groups.specs.declared.Read.TheVariants.{Number}
 use Rattle.groups.specs.Number.{limit, number_at, encode}
 use Rattle.groups.proofs.RoundTrip.{reads_at, writes_back, number_next, number_ends_at, Bytes}
-use Rattle.fields.specs.Parse.{Parse, got, field_at}
+use Rattle.fields.specs.Parse.{got, field_at}
 use Rattle.fields.proofs.ParseLaws.{field_got, field_reads}
 
 -- the bytes w stand at a place of s, and end at `next`

@@ -5,7 +5,7 @@ use mathlib.Core.List.{List, [], ◌∷◌}
 use mathlib.Core.Logic.{⊎_elim}
 use Prim.Native.Nat.{ℕ, zero, suc, ◌+◌, ◌-◌, ◌*◌, ◌/◌, ◌%◌, ◌^◌, ◌<◌, ◌≤◌}
 use native.Mathlib.Omega.{arith}
-use native.Mathlib.Nat.{pow-suc, pow-zero, one-le-pow, div-lt_iff_lt-mul}
+use native.Mathlib.Nat.{pow-suc, pow-zero}
 use mir.Val.{Fits}
 use mir.Syntax.{w64}
 use lib.ListN.{length}

@@ -4,8 +4,8 @@
 use mathlib.Core.Path.{◌≡◌, refl, sym, ap, ◌∙◌}
 use mathlib.Core.Bool.{Bool, true, false}
 use mathlib.Core.Logic.{◌⊎◌, inl, inr, ⊎_elim}
-use mathlib.Core.List.{List, [], ◌∷◌, ◌++◌}
-use Prim.Native.Nat.{ℕ, zero, suc, ◌+◌, ◌-◌, ◌*◌, ◌/◌, ◌%◌, ◌^◌, ◌<◌, ◌≤◌}
+use mathlib.Core.List.{List, ◌++◌}
+use Prim.Native.Nat.{ℕ, zero, suc, ◌+◌, ◌-◌, ◌*◌, ◌%◌, ◌<◌, ◌≤◌}
 use native.Mathlib.Omega.{arith}
 use native.Mathlib.Nat.{add_assoc}
 use lib.ListN.{length, get_or, length-append, get_or-append}
@@ -18,7 +18,7 @@ use Rattle.refusal.specs.declared.Why.{Why}
 use Rattle.refusal.specs.declared.Why.TheVariants.{CutShort, NotShortest}
 use Rattle.groups.specs.declared.Read.{Read}
 use Rattle.groups.specs.declared.Read.TheVariants.{Number, Refused}
-use Rattle.groups.specs.Number.{groups, limit, shortest_end, groups_from, number_at}
+use Rattle.groups.specs.Number.{groups, shortest_end, groups_from, number_at}
 use Rattle.groups.proofs.Groups.{input_ends, number_ends, longer_than_needed, goes_on}
 
 true_or_false : (t : Bool) → (t ≡ true) ⊎ (t ≡ false)

@@ -2,7 +2,7 @@
 -- Each is shown group by group, for any groups left.
 -- Assumes nothing.
 use mathlib.Core.Path.{◌≡◌, refl, sym, ap, ◌∙◌}
-use mathlib.Core.Bool.{Bool, true, false}
+use mathlib.Core.Bool.{true}
 use mathlib.Core.Logic.{⊎_elim}
 use mathlib.Core.List.{List, [], ◌∷◌, ◌++◌}
 use Prim.Native.Nat.{ℕ, zero, suc, ◌+◌, ◌-◌, ◌*◌, ◌/◌, ◌%◌, ◌^◌, ◌<◌, ◌≤◌}
@@ -14,9 +14,7 @@ use lib.Seq.{drop-cons, drop-append_seam, length-take-le}
 use borrow.Author.Tests.{ltb-true, lt-ltb, eq-eqb, ne_eqb}
 use Rattle.base.specs.Pick.{pick}
 use Rattle.base.proofs.Cases.{lt_or_le, eq_or_ne}
-use Rattle.refusal.specs.declared.Why.{Why}
 use Rattle.refusal.specs.declared.Why.TheVariants.{CutShort, NotShortest}
-use Rattle.groups.specs.declared.Read.{Read}
 use Rattle.groups.specs.declared.Read.TheVariants.{Number, Refused}
 use Rattle.groups.specs.Number.{groups, limit, shortest_end, groups_from, number_at, encode_in, encode}
 use Rattle.groups.proofs.Groups.{input_ends, number_ends, longer_than_needed, goes_on}

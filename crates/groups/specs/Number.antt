@@ -3,7 +3,7 @@
 -- The subtle point is the order of refusals 1 and 2: once the last group that a number may have promises another, it is 2, whether or not
 -- the input ends there.
 -- Assumes nothing.
-use Rattle.std.specs.Prelude.{ℕ, zero, suc, ◌+◌, ◌-◌, ◌*◌, ◌/◌, ◌%◌, ◌^◌, List, [], ◌∷◌, length, get_or, Bool, true, ltb, leb, eqb}
+use Rattle.std.specs.Prelude.{ℕ, zero, suc, ◌+◌, ◌*◌, ◌/◌, ◌%◌, ◌^◌, List, [], ◌∷◌, length, get_or, Bool, true, ltb, leb, eqb}
 use Rattle.std.proofs.lemmas.List.Edits.{sets}
 use Rattle.base.specs.Pick.{pick}
 use Rattle.refusal.specs.Refusal.{by}

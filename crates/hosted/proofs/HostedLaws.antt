@@ -1,8 +1,8 @@
 -- Two results that one contract allows are equal.
 -- Assumes nothing.
-use mathlib.Core.Path.{◌≡◌, refl, sym, ap, subst, ◌∙◌}
+use mathlib.Core.Path.{◌≡◌, sym, ap, ◌∙◌}
 use mathlib.Core.List.{List}
-use Prim.Native.Nat.{ℕ, ◌<◌}
+use Prim.Native.Nat.{ℕ}
 use native.Mathlib.Omega.{arith}
 use Rattle.refusal.specs.declared.Answer.{Answer}
 use Rattle.refusal.specs.declared.Answer.TheVariants.{Done, Refused}
@@ -10,7 +10,7 @@ use Rattle.desk.specs.declared.Desk.{Desk}
 use Rattle.desk.specs.Held.{Standing}
 use Rattle.desk.specs.Empty.{empty_desk}
 use Rattle.desk.specs.Load.{no_tally}
-use Rattle.demands.specs.Same.{SameDesk, SameLoaded}
+use Rattle.demands.specs.Same.{SameDesk}
 use Rattle.demands.proofs.Once.{load_once}
 use Rattle.questions.specs.declared.ConeAsked.{ConeAsked}
 use Rattle.questions.specs.Tried.{part_tried, Said}

@@ -1,6 +1,6 @@
 -- 01, Questions: critical links. The one definition is `criticalb`; all else goes by it.
 -- Assumes nothing.
-use Rattle.std.specs.Prelude.{◌≡◌, Bool, true, List, ℕ, ◌+◌, min, ltb, eqb, length, get_or}
+use Rattle.std.specs.Prelude.{◌≡◌, Bool, true, ℕ, ◌+◌, min, ltb, eqb, length, get_or}
 use Rattle.curve.specs.Rows.{ticks_at}
 use Rattle.marks.specs.Marks.{Exactly}
 use Rattle.curve.specs.Tests.{both}

@@ -7,7 +7,7 @@ use native.Mathlib.Omega.{arith}
 use native.Mathlib.Decide.{dec_lt, ℕ_discrete}
 use borrow.Author.Tests.{lt-ltb, le-ltb}
 use Rattle.base.specs.Pick.{pick}
-use Rattle.theory.specs.Sum.{share, into}
+use Rattle.theory.specs.Sum.{into}
 use Rattle.theory.proofs.SumLaws.{sum_ext, share_eq, share_ne}
 use Rattle.theory.specs.Saving.{Suits}
 use Rattle.theory.specs.Graph.{Graph, Times, Lawful, Feasible, Slack, Conserves}

@@ -11,7 +11,7 @@ use lib.ListN.{length, set, length-set, get_or-eq_default}
 use lib.Seq.{get_or-set_same, get_or-set_other}
 use Rattle.base.specs.Pick.{pick}
 use Rattle.theory.specs.Sum.{cells}
-use Rattle.theory.specs.Graph.{Graph, Times, Lawful, Feasible, Slack, Conserves}
+use Rattle.theory.specs.Graph.{Graph, Times, Lawful, Feasible, Slack}
 use Rattle.theory.specs.Latest.{Latest}
 use Rattle.nets.specs.Layout.{ARCS, BASE, HEAD, LENGTH, SAVING, TAIL}
 use Rattle.nets.specs.Region.{Only}

@@ -1,7 +1,7 @@
 -- What is left of the deadline after the turned links' starts are the board's latest ends, whatever the delays are, and they are one value.
 -- The subtle point: a start past its type was cut to the type's greatest, but no deadline is later than that, so nothing is left either way.
 -- Assumes nothing.
-use mathlib.Core.Path.{◌≡◌, refl, sym, ap, ◌∙◌}
+use mathlib.Core.Path.{◌≡◌, refl, ap, ◌∙◌}
 use mathlib.Core.List.{List}
 use Prim.Native.Nat.{ℕ, zero, suc, min, ◌+◌, ◌-◌, ◌≤◌, ◌<◌}
 use native.Mathlib.Omega.{arith}

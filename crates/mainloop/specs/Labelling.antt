@@ -1,6 +1,6 @@
 -- Labels in the sheets. Labelling writes ranks, ways and rooms, which stand together at the work's end, and nothing else.
 -- Assumes nothing.
-use Rattle.std.specs.Prelude.{◌≡◌, List, ℕ, ◌+◌, ◌≤◌, ◌<◌, length, set}
+use Rattle.std.specs.Prelude.{◌≡◌, List, ℕ, ◌+◌, length, set}
 use Rattle.theory.specs.Sum.{cells}
 use Rattle.nets.specs.Layout.{LABELS, RANK, ROOM, VIA}
 use Rattle.nets.specs.Region.{Only}

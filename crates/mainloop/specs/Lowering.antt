@@ -1,6 +1,6 @@
 -- Lowering the times of the labelled nodes. It writes times and nothing else.
 -- Assumes nothing.
-use Rattle.std.specs.Prelude.{◌≡◌, List, ℕ, ◌+◌, ◌≤◌, ◌<◌}
+use Rattle.std.specs.Prelude.{◌≡◌, List, ℕ, ◌≤◌, ◌<◌}
 use Rattle.theory.specs.Sum.{cells}
 use Rattle.nets.specs.Layout.{TIME}
 use Rattle.nets.specs.Region.{Only}

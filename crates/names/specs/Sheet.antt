@@ -1,6 +1,6 @@
 -- 01, Questions: "A name sheet is text, line n for part n, lines parted by byte 10. A label is 1 to 16 bytes from 33 to 126."
 -- Assumes nothing.
-use Rattle.std.specs.Prelude.{ℕ, zero, suc, ◌-◌, List, [], ◌∷◌, Bool, true, false, length, ltb, leb, eqb}
+use Rattle.std.specs.Prelude.{ℕ, zero, suc, ◌-◌, List, [], ◌∷◌, Bool, true, false, length, leb, eqb}
 use Rattle.base.specs.Pick.{pick}
 use Rattle.refusal.specs.declared.Answer.{Answer}
 use Rattle.refusal.specs.declared.Answer.TheVariants.{Done}

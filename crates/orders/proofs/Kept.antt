@@ -12,7 +12,7 @@ use Rattle.curve.specs.declared.Curve.{Curve}
 use Rattle.curve.specs.Curve.{power_max}
 use Rattle.fields.specs.Parse.{Parse, got, and_then, repeat, number, field_at}
 use Rattle.fields.specs.CurveFile.{bare, run_from, runs_from, curve_from}
-use Rattle.fields.proofs.ParseLaws.{number_once, Then, then_got, Ranged, field_got, field_reads}
+use Rattle.fields.proofs.ParseLaws.{number_once, then_got, field_got, field_reads}
 use Rattle.orders.specs.declared.Change.{Change}
 use Rattle.orders.specs.declared.Change.TheVariants.{AddLink, RemoveLink}
 use Rattle.orders.specs.declared.Order.{Order}

@@ -20,7 +20,7 @@ use Rattle.groups.proofs.RoundTrip.{Bytes}
 use Rattle.curve.specs.declared.Curve.{Curve}
 use Rattle.fields.specs.Parse.{Parse, got, stop, and_then, number, field_at}
 use Rattle.fields.specs.CurveFile.{curve_from, curve_bytes}
-use Rattle.fields.proofs.ParseLaws.{number_once, Then, then_got, got_same, Ranged, field_got}
+use Rattle.fields.proofs.ParseLaws.{number_once, then_got, got_same, field_got}
 use Rattle.fields.proofs.Stands.{Stands, stands_first, stands_then, stands_join, number_reads, number_stands, field_reads_back, field_stands, field_next}
 use Rattle.fields.proofs.CurveFileLaws.{curve_good, curve_next, curve_writes_back, curve_reads_back}
 use Rattle.orders.specs.declared.Change.{Change}

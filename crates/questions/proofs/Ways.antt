@@ -1,6 +1,6 @@
 -- The ways through the functions that try a question and that answer by a number of the desk, in plain values.
 -- Assumes nothing.
-use mathlib.Core.Path.{◌≡◌, refl, sym}
+use mathlib.Core.Path.{◌≡◌}
 use mathlib.Core.Bool.{Bool, true, false, not}
 use Prim.Native.Nat.{ℕ, ◌≤◌, ◌<◌}
 use lib.Count.{ones}

@@ -1,6 +1,6 @@
 -- Questions about a held board that are answered by numbers: powers, times, the total and the board's own counts. All are 0 where a question is refused.
 -- Assumes nothing.
-use Rattle.std.specs.Prelude.{◌≡◌, Bool, ℕ, get_or}
+use Rattle.std.specs.Prelude.{◌≡◌, ℕ, get_or}
 use Rattle.base.specs.Pick.{pick}
 use Rattle.refusal.specs.declared.Answer.{Answer}
 use Rattle.refusal.specs.declared.Answer.TheVariants.{Done, Refused}

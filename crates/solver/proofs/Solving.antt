@@ -1,6 +1,6 @@
 -- The ways of `solve`: a board refused; and loads that conserve with their first times, which are the budget held and its reason.
 -- Assumes nothing.
-use Rattle.std.proofs.Common.{◌≡◌, ℕ, ◌+◌, ◌<◌, ◌≤◌, Bool, true, false, not, List, [], sym, refl, ◌∙◌, arith, w64, Fits}
+use Rattle.std.proofs.Common.{◌≡◌, ℕ, ◌+◌, ◌<◌, ◌≤◌, Bool, true, false, not, List, [], sym, refl, arith, w64, Fits}
 use borrow.Author.Tests.{not-true, not-false}
 use Rattle.refusal.specs.declared.Why.{Why}
 use Rattle.refusal.specs.declared.Answer.{Answer}
@@ -24,7 +24,7 @@ use Rattle.budget.proofs.BudgetLaws.{value_alike, value_holds}
 use Rattle.nets.specs.Net.{Net}
 use Rattle.nets.specs.Flow.{Sheet, First}
 use Rattle.nets.specs.Wired.{Wired, times_of}
-use Rattle.nets.specs.Sheet.{net_in, arcs_in, time_in, load_in}
+use Rattle.nets.specs.Sheet.{net_in, time_in, load_in}
 use Rattle.nets.proofs.Bridge.{balanced_conserves}
 use Rattle.nets.proofs.Nodes.{first_held, first_slack}
 use Rattle.nets.proofs.Steps.{first_agrees, sheet_agrees}

@@ -1,6 +1,6 @@
 -- A well-formed board has one verdict: a loop, a path too slow, or neither, with one place and one path.
 -- Assumes nothing.
-use Rattle.std.proofs.Common.{◌≡◌, ℕ, Bool, true, false, List, [], sym, refl, ap, ◌∙◌, arith}
+use Rattle.std.proofs.Common.{◌≡◌, ℕ, List, refl, ap, arith}
 use Rattle.refusal.specs.declared.Answer.{Answer}
 use Rattle.refusal.specs.declared.Answer.TheVariants.{Done, Refused}
 use Rattle.refusal.specs.declared.Why.TheVariants.{Looped, TooSlow}
@@ -9,7 +9,6 @@ use Rattle.theory.specs.Budget.{Budget}
 use Rattle.board.specs.declared.Board.{Board}
 use Rattle.board.specs.Board.{usable, view, WellFormed}
 use Rattle.board.specs.Leads.{LoopFree}
-use Rattle.cone.specs.declared.Loop.{Loop}
 use Rattle.cone.specs.declared.Loop.TheVariants.{At, Free}
 use Rattle.cone.specs.Cone.{LowestOnLoop}
 use Rattle.cone.proofs.Loops.{loop_said_once, loop_free_ranked}

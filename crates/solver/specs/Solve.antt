@@ -12,7 +12,6 @@ use Rattle.board.specs.declared.Board.{Board}
 use Rattle.board.specs.Board.{WellFormed, view, usable}
 use Rattle.slow.specs.declared.Trail.{Trail}
 use Rattle.slow.specs.Walk.{trail_of}
-use Rattle.budget.specs.declared.Budget.{Budget}
 use Rattle.budget.specs.Budget.{Holds}
 pub use Rattle.budget.specs.Made.{no_budget}
 use Rattle.budget.specs.Reason.{Reason}

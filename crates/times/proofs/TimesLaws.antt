@@ -16,7 +16,7 @@ use Rattle.curve.specs.Rows.{ticks_at}
 use Rattle.curve.proofs.CurveLaws.{slowest_to}
 use Rattle.curve.proofs.RowLaws.{ticks_at_lem, same_ticks}
 use Rattle.board.specs.declared.Board.{Board}
-use Rattle.board.specs.Board.{curve_at, link_at, view, WellFormed}
+use Rattle.board.specs.Board.{curve_at, link_at, view}
 use Rattle.board.proofs.Lawful.{lawful, wire_to}
 use Rattle.times.specs.declared.Schedule.{Schedule}
 use Rattle.times.specs.Times.{fastests_of, slowest_at, slowests_of, in_ticks, graph_of, TimesOf, Loopless, LooplessBy}

@@ -1,6 +1,6 @@
 -- The ways of the room of loads.
 -- Assumes nothing.
-use Rattle.std.proofs.Common.{◌≡◌, ℕ, ◌+◌, ◌<◌, ◌≤◌, Bool, true, List, sym, refl, ◌∙◌, arith}
+use Rattle.std.proofs.Common.{◌≡◌, ℕ, ◌+◌, ◌<◌, ◌≤◌, Bool, true, List, refl, ◌∙◌, arith}
 use Rattle.theory.specs.Sum.{cells}
 use Rattle.curve.specs.declared.Ticks.{Ticks}
 use Rattle.board.specs.declared.Board.{Board}
@@ -9,13 +9,11 @@ use Rattle.board.proofs.UsableLaws.{usable_to}
 use Rattle.times.specs.declared.Schedule.{Schedule}
 use Rattle.times.specs.Times.{slowests_of, TimesOf, Loopless}
 use Rattle.nets.specs.Layout.{LATE}
-use Rattle.nets.specs.Net.{Net}
 use Rattle.nets.specs.Flow.{Fit, World}
 use Rattle.nets.specs.Sheet.{net_in, arcs_in, tails_in, heads_in, WideIn}
 use Rattle.deciding.specs.Raising.{FairIn}
 use Rattle.deciding.specs.Finding.{PreparedIn, ProvesIn, AnsweredIn}
 use Rattle.solver.specs.Solve.{Solvable}
-use Rattle.solver.specs.Wiring.{NetworkIn}
 use Rattle.solver.specs.Finding.{Begun, Slowest, LateIn, Prepared, Found}
 use Rattle.solver.proofs.wiring.Wiring.{network_stays}
 use Rattle.solver.proofs.wiring.Worlds.{board_world}

@@ -1,6 +1,6 @@
 -- The ways of `begin` and `lay_times`: times of parts at their nodes, and times of nodes on the net sheet.
 -- Assumes nothing.
-use Rattle.std.proofs.Common.{◌≡◌, ℕ, ◌+◌, ◌<◌, ◌≤◌, max, List, length, get_or, set, refl, ◌∙◌, arith, length-set, get_or-set_other, get_or-set_same}
+use Rattle.std.proofs.Common.{◌≡◌, ℕ, ◌+◌, ◌<◌, ◌≤◌, max, List, length, get_or, set, ◌∙◌, arith, length-set, get_or-set_other, get_or-set_same}
 use native.Mathlib.Decide.{ℕ_discrete}
 use Rattle.theory.specs.Sum.{cells}
 use Rattle.curve.specs.declared.Ticks.{Ticks}

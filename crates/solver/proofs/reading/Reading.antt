@@ -16,7 +16,7 @@ use Rattle.budget.specs.declared.Budget.{Budget}
 use Rattle.budget.specs.Made.{budget_of, value_of}
 use Rattle.nets.specs.Layout.{LOAD, TIME}
 use Rattle.nets.specs.Wired.{times_of}
-use Rattle.nets.specs.Sheet.{time_in, load_in}
+use Rattle.nets.specs.Sheet.{time_in}
 use Rattle.nets.proofs.Regions.{region_cell}
 use Rattle.solver.specs.Solve.{no_loads}
 use Rattle.solver.specs.Reading.{nodes_from, FlowIn}

@@ -4,7 +4,6 @@ use Rattle.std.proofs.Common.{◌≡◌, ℕ, ◌+◌, ◌/◌, ◌%◌, ◌<◌
 use native.Mathlib.Decide.{ℕ_discrete}
 use Rattle.theory.specs.Sum.{cells}
 use Rattle.nets.specs.Layout.{ARCS, BASE, DUE, HEAD, LENGTH, PARTS, SAVING, TAIL}
-use Rattle.nets.specs.Region.{Only}
 use Rattle.nets.proofs.Regions.{only_none, only_set}
 use Rattle.curve.specs.Curve.{no_run, length_at, saving_at}
 use Rattle.board.specs.declared.Board.{Board}

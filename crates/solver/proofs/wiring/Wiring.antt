@@ -1,13 +1,13 @@
 -- The four blocks, the runs and the counts, once laid, are the board's network; and it stays where times of nodes are written beside it.
 -- Assumes nothing.
-use Rattle.std.proofs.Common.{◌≡◌, ℕ, ◌+◌, ◌<◌, ◌≤◌, List, sym, ap, ◌∙◌, arith}
+use Rattle.std.proofs.Common.{◌≡◌, ℕ, ◌+◌, ◌<◌, List, sym, ap, ◌∙◌, arith}
 use Rattle.theory.specs.Sum.{cells}
 use Rattle.board.specs.declared.Board.{Board}
 use Rattle.board.specs.Board.{WellFormed, view}
 use Rattle.board.proofs.Lawful.{wire_to}
 use Rattle.nets.specs.Layout.{ARCS, BASE, HEAD, LATE, LENGTH, SAVING, TAIL}
 use Rattle.nets.specs.Region.{Only}
-use Rattle.nets.specs.Net.{Net, Bends}
+use Rattle.nets.specs.Net.{Bends}
 use Rattle.nets.specs.Sheet.{net_in, arcs_in, tails_in, heads_in, base_in, lengths_in, savings_in}
 use Rattle.nets.specs.Wired.{Wired}
 use Rattle.nets.proofs.Arcs.{each_arc}
