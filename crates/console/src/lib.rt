@@ -2,9 +2,10 @@
 // written out before the next byte, so that nothing that is put on it is lost. A write that fails is kept in `Out`, for the program to end with.
 #![tactic(auto)]
 
-ghost use Rattle.std.specs.Prelude.{◌≡◌, [], ◌∷◌, ◌+◌, ◌/◌, ◌%◌, ◌<◌, ◌↔◌, IsErr, take, set};
+ghost use Rattle.std.specs.Prelude.{◌≡◌, ℕ, [], ◌∷◌, ◌++◌, ◌+◌, ◌/◌, ◌%◌, ◌<◌, ◌↔◌, IsErr, take, set};
 ghost use Rattle.io.specs.Counts.{IsPrefixLen};
-ghost use Rattle.console.specs.Output.{HasFailed};
+ghost use Rattle.io.specs.Digits.{last_digits, IsDigitCount};
+ghost use Rattle.console.specs.Output.{HasFailed, out_writer, WritesTo, GoesOn};
 ghost use Rattle.console.specs.Page.{spot_of, text_on, text_end, NumberPut, hex_digit, hex_of};
 
 use std::fs::File;
@@ -86,10 +87,10 @@ fn wide(byte: u8) -> usize
 }
 
 // ---- where text goes
-// Standard output, and the error of the first write that failed: from then on nothing more is written.
+// A writer, mostly standard output, and the error of the first write that failed: from then on nothing more is written.
 #[derive(Drop)]
-pub struct Out {
-    stdout: Stdout,
+pub struct Out<W = Stdout> {
+    writer: W,
     failed: Option<Error>,
 }
 
@@ -97,14 +98,22 @@ pub struct Out {
 pub fn standard_out(rt: &HostRuntime) -> Out
     ensures { ¬ (HasFailed result) }
 {
+    out_to(rt.stdout())
+}
+
+// The same over any writer.
+pub fn out_to<W: Write>(writer: W) -> Out<W>
+    ensures none { ¬ (HasFailed result) }
+    ensures to { out_writer result ≡ writer }
+{
     Out {
-        stdout: rt.stdout(),
+        writer,
         failed: None,
     }
 }
 
 // What a program ends with: the error of the first write that failed.
-pub fn outcome(out: Out) -> Result<()>
+pub fn outcome<W: Write + Drop>(out: Out<W>) -> Result<()>
     ensures { IsErr result ↔ HasFailed out }
 {
     match out.failed {
@@ -114,28 +123,31 @@ pub fn outcome(out: Out) -> Result<()>
 }
 
 // Writes all bytes, where no write failed before.
-fn send(out: &mut Out, bytes: &[u8])
-    ensures { HasFailed out.old → HasFailed out.new }
+fn send<W: Write>(out: &mut Out<W>, bytes: &[u8])
+    ensures kept { HasFailed out.old → HasFailed out.new }
+    ensures sent { WritesTo W.contents out.old out.new bytes.now }
 {
     if out.failed.is_some() {
         return;
     }
-    if let Err(e) = out.stdout.write_all(bytes) {
+    if let Err(e) = out.writer.write_all(bytes) {
         out.failed = Some(e);
     }
 }
 
 // ---- a page
 // Writes out what the page is filled with. The next text begins it anew, at 0.
-pub fn write_out(out: &mut Out, page: &[u8; PAGE], at: usize)
-    ensures { HasFailed out.old → HasFailed out.new }
+pub fn write_out<W: Write>(out: &mut Out<W>, page: &[u8; PAGE], at: usize)
+    ensures kept { HasFailed out.old → HasFailed out.new }
+    ensures sent { WritesTo W.contents out.old out.new (take at page.now) }
 {
     write_first(out, page, at);
 }
 
 // The first bytes, or all where there are no more.
-fn write_first(out: &mut Out, bytes: &[u8], count: usize)
-    ensures { HasFailed out.old → HasFailed out.new }
+fn write_first<W: Write>(out: &mut Out<W>, bytes: &[u8], count: usize)
+    ensures kept { HasFailed out.old → HasFailed out.new }
+    ensures sent { WritesTo W.contents out.old out.new (take count bytes.now) }
 {
     if count < bytes.len() {
         send(out, &bytes[..count]);
@@ -145,9 +157,10 @@ fn write_first(out: &mut Out, bytes: &[u8], count: usize)
 }
 
 // One byte more, on a new page where this one is full.
-fn put(out: &mut Out, page: &mut [u8; PAGE], at: usize, byte: u8) -> usize
+fn put<W: Write>(out: &mut Out<W>, page: &mut [u8; PAGE], at: usize, byte: u8) -> usize
     ensures holds { (result ≡ spot_of at + 1) × (page.new ≡ set page.old (spot_of at) byte) }
     ensures kept { HasFailed out.old → HasFailed out.new }
+    ensures goes_on { GoesOn W.contents out.old page.old at out.new page.new result (byte ∷ []) }
 {
     if PAGE <= at {
         send(out, page);
@@ -159,9 +172,10 @@ fn put(out: &mut Out, page: &mut [u8; PAGE], at: usize, byte: u8) -> usize
 }
 
 // A word as it stands.
-pub fn text(out: &mut Out, page: &mut [u8; PAGE], at: usize, word: &[u8]) -> usize
+pub fn text<W: Write>(out: &mut Out<W>, page: &mut [u8; PAGE], at: usize, word: &[u8]) -> usize
     ensures holds { (result ≡ text_end at word.now) × (page.new ≡ text_on page.old at word.now) }
     ensures kept { HasFailed out.old → HasFailed out.new }
+    ensures goes_on { GoesOn W.contents out.old page.old at out.new page.new result word.now }
 {
     let mut end = at;
     let mut i: usize = 0;
@@ -173,9 +187,16 @@ pub fn text(out: &mut Out, page: &mut [u8; PAGE], at: usize, word: &[u8]) -> usi
 }
 
 // A word, and then a number in decimal digits.
-pub fn number(out: &mut Out, page: &mut [u8; PAGE], at: usize, word: &[u8], n: u64) -> usize
+pub fn number<W: Write>(
+    out: &mut Out<W>,
+    page: &mut [u8; PAGE],
+    at: usize,
+    word: &[u8],
+    n: u64,
+) -> usize
     ensures holds { NumberPut page.old at word.now n result page.new }
     ensures kept { HasFailed out.old → HasFailed out.new }
+    ensures goes_on { (places : ℕ) × IsDigitCount 10 1 n places × GoesOn W.contents out.old page.old at out.new page.new result (word.now ++ last_digits 10 places n) }
 {
     let mut digits = [0u8; 20];
     let count = io::decimal(n, &mut digits);
@@ -184,9 +205,16 @@ pub fn number(out: &mut Out, page: &mut [u8; PAGE], at: usize, word: &[u8], n: u
 }
 
 // The first bytes, as many as are asked for and there are, each as two hex digits in lower case.
-pub fn hex(out: &mut Out, page: &mut [u8; PAGE], at: usize, bytes: &[u8], count: usize) -> usize
+pub fn hex<W: Write>(
+    out: &mut Out<W>,
+    page: &mut [u8; PAGE],
+    at: usize,
+    bytes: &[u8],
+    count: usize,
+) -> usize
     ensures holds { (result ≡ text_end at (hex_of (take count bytes.now))) × (page.new ≡ text_on page.old at (hex_of (take count bytes.now))) }
     ensures kept { HasFailed out.old → HasFailed out.new }
+    ensures goes_on { GoesOn W.contents out.old page.old at out.new page.new result (hex_of (take count bytes.now)) }
 {
     let mut end = at;
     let mut i: usize = 0;
@@ -200,9 +228,10 @@ pub fn hex(out: &mut Out, page: &mut [u8; PAGE], at: usize, bytes: &[u8], count:
     end
 }
 
-fn hex_byte(out: &mut Out, page: &mut [u8; PAGE], at: usize, byte: u8) -> usize
+fn hex_byte<W: Write>(out: &mut Out<W>, page: &mut [u8; PAGE], at: usize, byte: u8) -> usize
     ensures holds { (result ≡ spot_of (spot_of at + 1) + 1) × (page.new ≡ set (set page.old (spot_of at) (hex_digit (byte / 16))) (spot_of (spot_of at + 1)) (hex_digit (byte % 16))) }
     ensures kept { HasFailed out.old → HasFailed out.new }
+    ensures goes_on { GoesOn W.contents out.old page.old at out.new page.new result (hex_digit (byte / 16) ∷ hex_digit (byte % 16) ∷ []) }
 {
     let end = put(out, page, at, hex_digit(byte / 16));
     put(out, page, end, hex_digit(byte % 16))
@@ -215,9 +244,10 @@ fn hex_digit(digit: u8) -> u8
     if digit < 10 { 48 + digit } else { 87 + digit }
 }
 
-pub fn end_line(out: &mut Out, page: &mut [u8; PAGE], at: usize) -> usize
+pub fn end_line<W: Write>(out: &mut Out<W>, page: &mut [u8; PAGE], at: usize) -> usize
     ensures holds { (result ≡ text_end at (10 ∷ [])) × (page.new ≡ text_on page.old at (10 ∷ [])) }
     ensures kept { HasFailed out.old → HasFailed out.new }
+    ensures goes_on { GoesOn W.contents out.old page.old at out.new page.new result (10 ∷ []) }
 {
     put(out, page, at, 10)
 }
