@@ -251,3 +251,6 @@ pub fn end_line<W: Write>(out: &mut Out<W>, page: &mut [u8; PAGE], at: usize) ->
 {
     put(out, page, at, 10)
 }
+
+#[cfg(test)]
+mod tests;
