@@ -14,7 +14,7 @@ BOARD = "deadline 3\npart A fastest 1 power 0\n"
 # Takes a moment, counts its runs, and builds programs that print the board they were given, one a call, in the folder where it is called.
 KIT = """#!/bin/sh
 program=$(basename "$PWD")
-[ "$program" != boddivarn ] || echo run >>"$(dirname "$0")/runs"
+echo "run $program" >>"$(dirname "$0")/runs"
 [ "$program" != boddivarn ] || sleep "${SLOWLY:-0}"
 [ -z "$BROKEN" ] || { echo "rt: low NOT PROVED (exit 1, 0 s)"; exit 1; }
 mkdir -p out
@@ -68,7 +68,7 @@ class Building(unittest.TestCase):
         if not os.path.exists(path):
             return 0
         with open(path, encoding="ascii") as file:
-            return file.read().count("run")
+            return file.read().count("run boddivarn")
 
     def test_builds_once_and_says_so(self):
         status, out, said = self.run_plan()
@@ -77,6 +77,8 @@ class Building(unittest.TestCase):
         self.assertIn("boddivarn: 2 of 3 crates proved", said)
         self.assertEqual(self.run_plan(), (0, out, ""))
         self.assertEqual(self.builds(), 1)
+        with open(os.path.join(self.kit, "runs"), encoding="ascii") as file:
+            self.assertEqual(file.read(), "run boddivarn\nrun calls\n")
 
     def test_a_typo_shows_before_anything_is_built(self):
         self.write(self.board, BOARD + "lnk A B\n")

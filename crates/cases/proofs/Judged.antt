@@ -212,7 +212,7 @@ unfolding refused_tally among pick
 counted_slow ticks t = refl
 
 done_path : (b : Board) → WellFormed b → Verdict b Done [] → {a : Answer} {path : List ℕ} → Verdict b a path → path ≡ []
-done_path b w fine v = (verdict_once b w v fine).listed
+done_path b w accepted v = (verdict_once b w v accepted).listed
 
 module _ (b : Board) (n : Tally) (d : Desk) (t : Tally) (at : At b n d t) (room : n.taken + n.refused < 65535) (bytes : List ℕ) (o : Order) (took : ℕ)
     (reads : order_of bytes ≡ got o took) (fits : place_tried b o.change ≡ Done) (b' : Board) (changed : changed_of b o ≡ b')
