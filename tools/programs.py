@@ -159,13 +159,13 @@ def prove(lock):
 def build_one(program, lock, total, before):
     """What rt said, and its status. It proves what is below too, links the program into its crate's out/, and runs it there once, on no input."""
     pipes = {"stdin": subprocess.DEVNULL, "stdout": subprocess.PIPE, "stderr": subprocess.STDOUT}
-    command = subprocess.Popen(["rt", "run"], cwd=os.path.join(ROOT, "crates", program), pass_fds=[lock.fileno()], **pipes)
-    try:
-        said = follow(command, total, proved_in(before))
-    except BaseException:
-        command.terminate()
-        raise
-    return said, command.wait()
+    with subprocess.Popen(["rt", "run"], cwd=os.path.join(ROOT, "crates", program), pass_fds=[lock.fileno()], **pipes) as command:
+        try:
+            said = follow(command, total, proved_in(before))
+        except BaseException:
+            command.terminate()
+            raise
+    return said, command.returncode
 
 
 def put_in_place(program):
