@@ -40,15 +40,13 @@ fn offer_join(net: &[u32; 2048], s: &mut [u32; 8192], v: u32) {
 // All nodes that are one with node v.
 fn offer_members(net: &[u32; 2048], s: &mut [u32; 8192], v: u32) {
     let mut up = get(s, MEMBER, v);
-    let mut k: u32 = 0;
-    while k < 130 {
+    for k in 0..130 {
         if up == 0 {
             return;
         }
         let member = sub(up, 1);
         offer_join(net, s, member);
         up = get(s, SIBLING, member);
-        k = k + 1;
     }
 }
 
@@ -69,38 +67,32 @@ fn offer_node(net: &[u32; 2048], s: &mut [u32; 8192], v: u32) {
 // The nodes of the tree, each after its parent.
 fn offer_tree(net: &[u32; 2048], s: &mut [u32; 8192]) {
     let mut v = SOURCE;
-    let mut k: u32 = 0;
-    while k < 130 {
+    for k in 0..130 {
         v = get(s, NEXT, v);
         if v == SOURCE {
             return;
         }
         offer_node(net, s, v);
-        k = k + 1;
     }
 }
 
 // The ends that nothing has reached so far.
 fn offer_ends(net: &[u32; 2048], s: &mut [u32; 8192]) {
     let parts = get(s, PARTS, 0);
-    let mut p: u32 = 0;
-    while p < 64 {
+    for p in 0..64 {
         if parts <= p {
             return;
         }
         offer_join(net, s, add(p, 64));
         offer(net, s, p);
-        p = p + 1;
     }
 }
 
 // The arcs that are listed; past them no arc.
 fn take(s: &[u32; 8192], hint: &mut [u32; 130]) {
     let hints = get(s, HINTS, 0);
-    let mut k: u32 = 0;
-    while k < 130 {
+    for k in 0..130 {
         hint[k as usize] = either(k < hints, get(s, LIST, k), NONE);
-        k = k + 1;
     }
 }
 

@@ -204,12 +204,10 @@ fn links_good(b: Board) -> bool
     let links = b.links;
     let mut before = b.link[0];
     let mut good = true;
-    let mut l: usize = 0;
-    while l < 256 {
+    for l in 0..256 {
         let x = b.link[l];
         good = both_hold(good, link_good(parts, links, l, before, x));
         before = x;
-        l = l + 1;
     }
     good
 }
@@ -249,11 +247,9 @@ fn curves_good(b: Board) -> bool
 {
     let parts = b.parts;
     let mut good = true;
-    let mut p: usize = 0;
-    while p < 64 {
+    for p in 0..64 {
         let c = b.curve[p];
         good = both_hold(good, curve_good(parts, p, c));
-        p = p + 1;
     }
     good
 }

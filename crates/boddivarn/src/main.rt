@@ -137,10 +137,8 @@ fn print_table(out: &mut Out, page: &mut [u8; PAGE], d: Desk, names: &[u8]) {
     print_line(out, page, head);
     let whole = questions::whole(d);
     let n = whole.parts;
-    let mut p: usize = 0;
-    while p < n {
+    for p in 0..n {
         print_part(out, page, d, p, names);
-        p = p + 1;
     }
     let total = console::number(out, page, 0, b"total ", whole.total.0);
     print_line(out, page, total);

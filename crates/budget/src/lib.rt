@@ -63,10 +63,8 @@ fn delays(n: usize, start: [Ticks; 64], end: [Ticks; 64]) -> [Ticks; 64]
     ensures { result ≡ delays_of n start end }
 {
     let mut d = no_ticks();
-    let mut k: usize = 0;
-    while k < n {
+    for k in 0..n {
         d[k] = end[k].less(start[k]);
-        k = k + 1;
     }
     d
 }
@@ -77,11 +75,9 @@ fn powers(b: Board, delay: [Ticks; 64]) -> [Microwatts; 64]
 {
     let n = lesser(b.parts, 64);
     let mut w = no_powers();
-    let mut k: usize = 0;
-    while k < n {
+    for k in 0..n {
         let c = b.curve[k];
         w[k] = power_of(c, delay[k]);
-        k = k + 1;
     }
     w
 }
@@ -92,10 +88,8 @@ fn total_of(n: usize, power: [Microwatts; 64]) -> Total
     ensures { result.0 ≡ total_of n power }
 {
     let mut sum = Total(0);
-    let mut p: usize = 0;
-    while p < n {
+    for p in 0..n {
         sum = with_power(sum, power[p]);
-        p = p + 1;
     }
     sum
 }

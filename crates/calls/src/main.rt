@@ -56,8 +56,7 @@ fn main(rt: HostRuntime) -> Result<()> {
 fn answer_calls(source: &mut File, out: &mut Out, page: &mut [u8; PAGE]) -> usize {
     let mut session = begin();
     let mut at: usize = 0;
-    let mut count: u64 = 0;
-    while count < MOST {
+    for count in 0..MOST {
         let call = input::byte(source);
         if !call.there {
             return at;
@@ -68,7 +67,6 @@ fn answer_calls(source: &mut File, out: &mut Out, page: &mut [u8; PAGE]) -> usiz
             return console::text(out, page, at, b"stopped\n");
         }
         session = turn.session;
-        count = count + 1;
     }
     at
 }

@@ -38,10 +38,8 @@ fn put_rule(out: &mut Out, page: &mut [u8; PAGE], at: usize, rule: Rule) -> usiz
 
 fn put_parts(out: &mut Out, page: &mut [u8; PAGE], at: usize, d: Desk, parts: usize) -> usize {
     let mut end = at;
-    let mut p: usize = 0;
-    while p < parts {
+    for p in 0..parts {
         end = put_part(out, page, end, d, p);
-        p = p + 1;
     }
     end
 }
@@ -64,10 +62,8 @@ fn put_part(out: &mut Out, page: &mut [u8; PAGE], at: usize, d: Desk, p: usize) 
 
 fn put_links(out: &mut Out, page: &mut [u8; PAGE], at: usize, d: Desk, links: usize) -> usize {
     let mut end = at;
-    let mut l: usize = 0;
-    while l < links {
+    for l in 0..links {
         end = put_link(out, page, end, d, l);
-        l = l + 1;
     }
     end
 }
@@ -84,10 +80,8 @@ fn put_link(out: &mut Out, page: &mut [u8; PAGE], at: usize, d: Desk, l: usize) 
 
 fn put_sets(out: &mut Out, page: &mut [u8; PAGE], at: usize, d: Desk, parts: usize) -> usize {
     let mut end = at;
-    let mut p: usize = 0;
-    while p < parts {
+    for p in 0..parts {
         end = put_set(out, page, end, d, p);
-        p = p + 1;
     }
     end
 }

@@ -178,10 +178,8 @@ pub fn text<W: Write>(out: &mut Out<W>, page: &mut [u8; PAGE], at: usize, word: 
     ensures goes_on { GoesOn W.contents out.old page.old at out.new page.new result word.now }
 {
     let mut end = at;
-    let mut i: usize = 0;
-    while i < word.len() {
+    for i in 0..word.len() {
         end = put(out, page, end, word[i]);
-        i = i + 1;
     }
     end
 }
@@ -217,13 +215,11 @@ pub fn hex<W: Write>(
     ensures goes_on { GoesOn W.contents out.old page.old at out.new page.new result (hex_of (take count bytes.now)) }
 {
     let mut end = at;
-    let mut i: usize = 0;
-    while i < bytes.len() {
+    for i in 0..bytes.len() {
         if count <= i {
             return end;
         }
         end = hex_byte(out, page, end, bytes[i]);
-        i = i + 1;
     }
     end
 }

@@ -222,11 +222,9 @@ impl Curve {
     {
         let n = lesser(self.count, Self::RUNS_MAX);
         let mut delay = self.fastest;
-        let mut k: usize = 0;
-        while k < n {
+        for k in 0..n {
             let run = self.runs[k];
             delay = delay.plus(run.length);
-            k = k + 1;
         }
         delay
     }
@@ -237,15 +235,13 @@ impl Curve {
     {
         let n = lesser(self.count, Self::RUNS_MAX);
         let mut left = self.power.0 as u64;
-        let mut k: usize = 0;
-        while k < n {
+        for k in 0..n {
             let run = self.runs[k];
             let saved = run.saved();
             if left < saved {
                 return false;
             }
             left = left - saved;
-            k = k + 1;
         }
         true
     }
@@ -256,14 +252,12 @@ impl Curve {
     {
         let n = lesser(self.count, Self::RUNS_MAX);
         let mut left = above(delay.0, self.fastest.0);
-        let mut k: usize = 0;
-        while k < n {
+        for k in 0..n {
             let run = self.runs[k];
             if left < run.length.0 {
                 return run.saving;
             }
             left = left - run.length.0;
-            k = k + 1;
         }
         Microwatts(0)
     }
@@ -293,11 +287,9 @@ impl Curve {
             left: Ticks(delay.0 - fastest.0),
             power,
         };
-        let mut k: usize = 0;
-        while k < n {
+        for k in 0..n {
             let next = self.runs[k];
             slowing = slowing.used(next);
-            k = k + 1;
         }
         if 0 < slowing.left.0 {
             return refused;
@@ -329,12 +321,10 @@ impl Curve {
     fn places_are_good(self) -> bool
         ensures { result ≡ every 4 (placeb self) }
     {
-        let mut k: usize = 0;
-        while k < Self::RUNS_MAX {
+        for k in 0..Self::RUNS_MAX {
             if !self.place_is_good(k) {
                 return false;
             }
-            k = k + 1;
         }
         true
     }

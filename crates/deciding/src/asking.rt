@@ -13,14 +13,12 @@ fn above(net: &[u32; 2048], a: usize, x: u32) -> u32
         return 0;
     }
     let mut n: u32 = 0;
-    let mut i: usize = 0;
-    while i < 4 {
+    for i in 0..4 {
         let at = 4 * a + i;
         if net[nets::SAVING + at] <= x {
             return n;
         }
         n = n + net[nets::LENGTH + at];
-        i = i + 1;
     }
     n
 }

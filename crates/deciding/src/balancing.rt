@@ -27,13 +27,11 @@ fn weigh(net: &[u32; 2048], work: &mut [u32; 968]) -> bool
     ensures { WeighedIn net.now work.old work.new result }
 {
     let arcs = net[nets::ARCS] as usize;
-    let mut a: usize = 0;
-    while a < arcs {
+    for a in 0..arcs {
         if 64000 < work[nets::LOAD + a] {
             return false;
         }
         carry(net, work, a);
-        a = a + 1;
     }
     true
 }
@@ -47,12 +45,10 @@ pub(crate) fn balanced(net: &[u32; 2048], work: &mut [u32; 968]) -> bool
     if !weigh(net, work) {
         return false;
     }
-    let mut v: usize = 0;
-    while v < 128 {
+    for v in 0..128 {
         if work[nets::ROOM + v] != LEVEL {
             return false;
         }
-        v = v + 1;
     }
     true
 }

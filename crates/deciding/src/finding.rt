@@ -22,10 +22,8 @@ fn begin(net: &[u32; 2048], work: &mut [u32; 968])
     ensures { BegunIn net.now 130 work.new }
 {
     raising::fill(work, nets::LOAD, 448, 0);
-    let mut v: usize = 0;
-    while v < 130 {
+    for v in 0..130 {
         work[nets::TIME + v] = net[nets::LATE + v];
-        v = v + 1;
     }
 }
 

@@ -36,11 +36,9 @@ fn follow(net: &[u32; 2048], work: &mut [u32; 968], due: u32)
     requires within_in { WithinIn due work.old }
     ensures { FollowedIn net.now due work.old work.new }
 {
-    let mut k: usize = 0;
-    while k < 130 {
+    for k in 0..130 {
         let a = work[nets::VIA + k];
         settle(net, work, due, a);
-        k = k + 1;
     }
 }
 
@@ -52,10 +50,8 @@ fn sweep(net: &[u32; 2048], work: &mut [u32; 968], due: u32) -> u32
 {
     let arcs = net[nets::ARCS];
     let mut r: u32 = 2;
-    let mut a: u32 = 0;
-    while a < arcs {
+    for a in 0..arcs {
         r = judging::lesser(r, settle(net, work, due, a));
-        a = a + 1;
     }
     r
 }
@@ -67,10 +63,8 @@ pub(crate) fn fill(work: &mut [u32; 968], from: usize, n: usize, y: u32)
     ensures { FilledIn work.old from n y n work.new }
 {
     nets::seen(work);
-    let mut k: usize = 0;
-    while k < n {
+    for k in 0..n {
         work[from + k] = y;
-        k = k + 1;
     }
 }
 

@@ -98,8 +98,7 @@ fn read_parts(s: &[u8], parts: usize, at: usize) -> PartsRead
 {
     let mut curve = no_curves();
     let mut next = at;
-    let mut p: usize = 0;
-    while p < parts {
+    for p in 0..parts {
         let r = fields::read_curve(s, next);
         let a = r.answer;
         let Answer::Done = a else {
@@ -108,7 +107,6 @@ fn read_parts(s: &[u8], parts: usize, at: usize) -> PartsRead
         let c = r.curve;
         curve[p] = c;
         next = r.next;
-        p = p + 1;
     }
     PartsRead {
         answer: Answer::Done,
@@ -188,8 +186,7 @@ fn read_links(s: &[u8], parts: usize, links: usize, at: usize) -> LinksRead
     let mut link = no_links();
     let mut before = board::plain_link(0, 0);
     let mut next = at;
-    let mut l: usize = 0;
-    while l < links {
+    for l in 0..links {
         let r = read_link(s, parts, l, before, next);
         let a = r.answer;
         let Answer::Done = a else {
@@ -198,7 +195,6 @@ fn read_links(s: &[u8], parts: usize, links: usize, at: usize) -> LinksRead
         before = r.link;
         link[l] = before;
         next = r.next;
-        l = l + 1;
     }
     LinksRead {
         answer: Answer::Done,

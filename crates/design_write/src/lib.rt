@@ -23,11 +23,9 @@ fn links_size(b: Board) -> usize
 {
     let links = b.links;
     let mut bytes: usize = 0;
-    let mut l: usize = 0;
-    while l < links {
+    for l in 0..links {
         let link = b.link[l];
         bytes = bytes + link_size(link);
-        l = l + 1;
     }
     bytes
 }
@@ -38,11 +36,9 @@ fn parts_size(b: Board) -> usize
 {
     let parts = b.parts;
     let mut bytes: usize = 0;
-    let mut p: usize = 0;
-    while p < parts {
+    for p in 0..parts {
         let c = b.curve[p];
         bytes = bytes + fields::curve_size(c);
-        p = p + 1;
     }
     bytes
 }
@@ -79,11 +75,9 @@ fn write_links(buf: &mut [u8], at: usize, b: Board) -> usize
 {
     let links = b.links;
     let mut next = at;
-    let mut l: usize = 0;
-    while l < links {
+    for l in 0..links {
         let link = b.link[l];
         next = write_link(buf, next, link);
-        l = l + 1;
     }
     next
 }
@@ -94,11 +88,9 @@ fn write_parts(buf: &mut [u8], at: usize, b: Board) -> usize
 {
     let parts = b.parts;
     let mut next = at;
-    let mut p: usize = 0;
-    while p < parts {
+    for p in 0..parts {
         let c = b.curve[p];
         next = fields::write_curve(buf, next, c);
-        p = p + 1;
     }
     next
 }

@@ -127,8 +127,7 @@ fn each_run(s: &[u8], c: Curve, at: usize) -> CurveRead
     let count = c.count;
     let mut so_far = c;
     let mut next = at;
-    let mut i: usize = 0;
-    while i < count {
+    for i in 0..count {
         let r = read_run(s, i, so_far, next);
         let a = r.answer;
         let Answer::Done = a else {
@@ -136,7 +135,6 @@ fn each_run(s: &[u8], c: Curve, at: usize) -> CurveRead
         };
         so_far = r.curve;
         next = r.next;
-        i = i + 1;
     }
     CurveRead {
         answer: Answer::Done,
@@ -222,10 +220,8 @@ fn runs_size(c: Curve) -> usize
 {
     let count = c.count;
     let mut bytes: usize = 0;
-    let mut i: usize = 0;
-    while i < count {
+    for i in 0..count {
         bytes = bytes + run_size(c.runs[i]);
-        i = i + 1;
     }
     bytes
 }
@@ -254,10 +250,8 @@ fn write_runs(buf: &mut [u8], at: usize, c: Curve) -> usize
 {
     let count = c.count;
     let mut next = at;
-    let mut i: usize = 0;
-    while i < count {
+    for i in 0..count {
         next = write_run(buf, next, c.runs[i]);
-        i = i + 1;
     }
     next
 }

@@ -106,12 +106,10 @@ fn critical_rows(b: Board, held: Budget) -> Rows
 {
     let n = lesser(b.links, 256);
     let mut t = no_rows();
-    let mut k: usize = 0;
-    while k < n {
+    for k in 0..n {
         let l = b.link[k];
         let next = with_link(t, critical(held, l), l);
         t = next;
-        k = k + 1;
     }
     t
 }
@@ -131,10 +129,8 @@ fn gathered(rows: [u64; 64], seen: u64, set: u64) -> u64
     ensures { result ≡ gathered_of rows seen set }
 {
     let mut s = set;
-    let mut k: usize = 0;
-    while k < 64 {
+    for k in 0..64 {
         s = joined(s, seen, k, rows[k]);
-        k = k + 1;
     }
     s
 }

@@ -43,10 +43,8 @@ fn turn(net: &[u32; 2048], turned: &mut [u32; 2048])
 {
     nets::seen(net);
     nets::seen(turned);
-    let mut k: usize = 0;
-    while k < 2048 {
+    for k in 0..2048 {
         turned[k] = turned_cell(net, k);
-        k = k + 1;
     }
 }
 

@@ -27,10 +27,8 @@ fn turned(link: [Link; 256]) -> [Link; 256]
     ensures { Turned link result }
 {
     let mut t = link;
-    let mut k: usize = 0;
-    while k < 256 {
+    for k in 0..256 {
         t[k] = turned_link(link[k]);
-        k = k + 1;
     }
     t
 }
@@ -41,10 +39,8 @@ fn left(due: Ticks, s: [Ticks; 64], n: usize) -> [Ticks; 64]
     ensures { result ≡ left_of due.0 s n }
 {
     let mut e = no_ticks();
-    let mut k: usize = 0;
-    while k < n {
+    for k in 0..n {
         e[k] = due.less(s[k]);
-        k = k + 1;
     }
     e
 }

@@ -5,27 +5,21 @@ use crate::sheet::*;
 use crate::{pricing, sparing};
 
 fn lay_runs(net: &[u32; 2048], s: &mut [u32; 8192]) {
-    let mut k: u32 = 0;
-    while k < 256 {
+    for k in 0..256 {
         put(s, LENGTHS, k, read(net, NET_LENGTHS, k));
         put(s, SAVINGS, k, read(net, NET_SAVINGS, k));
-        k = k + 1;
     }
 }
 
 fn lay_times(net: &[u32; 2048], s: &mut [u32; 8192]) {
-    let mut v: u32 = 0;
-    while v < 130 {
+    for v in 0..130 {
         put(s, TIME, v, read(net, NET_TIMES, v));
-        v = v + 1;
     }
 }
 
 fn lay_fastest(net: &[u32; 2048], s: &mut [u32; 8192]) {
-    let mut p: u32 = 0;
-    while p < 64 {
+    for p in 0..64 {
         put(s, FASTEST, p, add(read(net, NET_BASE, p), HALF));
-        p = p + 1;
     }
 }
 
@@ -45,8 +39,7 @@ fn begin_link(s: &mut [u32; 8192], a: u32, tail: u32, head: u32, x: u32) {
 
 // Links stand from place `first` to place `end`.
 fn begin_links(net: &[u32; 2048], s: &mut [u32; 8192], loads: &[u32; 448], first: u32, end: u32) {
-    let mut k: u32 = 0;
-    while k < 256 {
+    for k in 0..256 {
         let a = add(first, k);
         if end <= a {
             return;
@@ -58,7 +51,6 @@ fn begin_links(net: &[u32; 2048], s: &mut [u32; 8192], loads: &[u32; 448], first
             read(net, NET_HEAD, a),
             load_at(loads, a),
         );
-        k = k + 1;
     }
 }
 
@@ -76,8 +68,7 @@ fn begin_part(s: &mut [u32; 8192], p: u32, at: u32, parts: u32, x: u32) -> u32 {
 
 fn begin_parts(s: &mut [u32; 8192], loads: &[u32; 448], parts: u32, first: u32) -> u32 {
     let mut sent: u32 = 0;
-    let mut p: u32 = 0;
-    while p < 64 {
+    for p in 0..64 {
         if parts <= p {
             return sent;
         }
@@ -85,7 +76,6 @@ fn begin_parts(s: &mut [u32; 8192], loads: &[u32; 448], parts: u32, first: u32) 
             sent,
             begin_part(s, p, add(first, p), parts, load_at(loads, p)),
         );
-        p = p + 1;
     }
     sent
 }
@@ -123,14 +113,12 @@ fn keep_arc(net: &[u32; 2048], s: &mut [u32; 8192], twos: &[u64; 64], a: u32) {
 // All arcs but the parts. Those that are kept stand in a list, after as many places as there are parts.
 fn keep_arcs(net: &[u32; 2048], s: &mut [u32; 8192], twos: &[u64; 64], parts: u32, arcs: u32) {
     put(s, KEPT, 0, parts);
-    let mut k: u32 = 0;
-    while k < 448 {
+    for k in 0..448 {
         let a = add(parts, k);
         if arcs <= a {
             return;
         }
         keep_arc(net, s, twos, a);
-        k = k + 1;
     }
 }
 
@@ -162,15 +150,13 @@ fn join_arc(net: &[u32; 2048], s: &mut [u32; 8192], a: u32) {
 
 fn join_arcs(net: &[u32; 2048], s: &mut [u32; 8192], parts: u32) {
     let kept = get(s, KEPT, 0);
-    let mut k: u32 = 0;
-    while k < 448 {
+    for k in 0..448 {
         let at = add(parts, k);
         if kept <= at {
             return;
         }
         let a = get(s, PLACE, at);
         join_arc(net, s, a);
-        k = k + 1;
     }
 }
 
@@ -214,14 +200,12 @@ fn lay_place(net: &[u32; 2048], s: &mut [u32; 8192], a: u32) {
 // Parts, and the arcs that are kept. An arc is laid no further on than it stands in the list.
 fn lay_arcs(net: &[u32; 2048], s: &mut [u32; 8192], parts: u32) {
     let kept = get(s, KEPT, 0);
-    let mut k: u32 = 0;
-    while k < 512 {
+    for k in 0..512 {
         if kept <= k {
             return;
         }
         let a = either(k < parts, k, get(s, PLACE, k));
         lay_place(net, s, a);
-        k = k + 1;
     }
 }
 
@@ -256,12 +240,10 @@ pub fn load_of(s: &[u32; 8192], a: u32) -> u32 {
 }
 
 pub fn take(s: &[u32; 8192], loads: &mut [u32; 448], arcs: u32) {
-    let mut a: u32 = 0;
-    while a < 448 {
+    for a in 0..448 {
         if arcs <= a {
             return;
         }
         loads[a as usize] = load_of(s, a);
-        a = a + 1;
     }
 }

@@ -52,8 +52,7 @@ pub(crate) fn run_at(net: &[u32; 2048], a: usize, j: u32) -> Run
         };
     }
     let mut begin: u32 = 0;
-    let mut i: usize = 0;
-    while i < 4 {
+    for i in 0..4 {
         let at = 4 * a + i;
         let end = begin + net[nets::LENGTH + at];
         if j < end {
@@ -64,7 +63,6 @@ pub(crate) fn run_at(net: &[u32; 2048], a: usize, j: u32) -> Run
             };
         }
         begin = end;
-        i = i + 1;
     }
     Run {
         begin: begin,
@@ -172,14 +170,12 @@ pub(crate) fn scan(net: &[u32; 2048], work: &[u32; 968], most: u32) -> Sight
 {
     let arcs = net[nets::ARCS] as usize;
     let mut slack = most;
-    let mut a: usize = 0;
-    while a < arcs {
+    for a in 0..arcs {
         let s = judge(net, a, arc_at(net, work, a));
         if 0 < s.room {
             return s;
         }
         slack = lesser(slack, s.slack);
-        a = a + 1;
     }
     Sight {
         arc: 448,

@@ -21,10 +21,8 @@ pub(crate) fn reset(work: &mut [u32; 968])
     ensures { FreshIn work.old work.new }
 {
     nets::seen(work);
-    let mut v: usize = 0;
-    while v < 130 {
+    for v in 0..130 {
         work[nets::ROOM + v] = 0;
-        v = v + 1;
     }
     work[nets::ROOM + 129] = 64001;
     work[nets::RANK + 129] = 0;

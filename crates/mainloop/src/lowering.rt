@@ -19,9 +19,7 @@ pub(crate) fn shift(work: &mut [u32; 968], d: u32)
     ensures { ShiftedIn work.old d 130 work.new }
 {
     nets::seen(work);
-    let mut v: usize = 0;
-    while v < 130 {
+    for v in 0..130 {
         work[nets::TIME + v] = moved(work[nets::TIME + v], work[nets::ROOM + v], d);
-        v = v + 1;
     }
 }

@@ -63,12 +63,10 @@ fn are_plain(sheet: &[u8], start: usize, end: usize) -> bool
     requires { (start ≤ end) × (end ≤ length sheet.now) }
     ensures { result ≡ all_plain (take (end - start) (drop start sheet.now)) }
 {
-    let mut at = start;
-    while at < end {
+    for at in start..end {
         if !is_plain(sheet[at]) {
             return false;
         }
-        at = at + 1;
     }
     true
 }

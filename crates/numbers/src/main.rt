@@ -12,10 +12,8 @@ const TIGHT: usize = GROUPS + 1;
 
 fn put_bytes(out: &mut Out, page: &mut [u8; PAGE], at: usize, s: &[u8]) -> usize {
     let mut end = at;
-    let mut i: usize = 0;
-    while i < s.len() {
+    for i in 0..s.len() {
         end = console::number(out, page, end, b" ", wide(s[i]));
-        i = i + 1;
     }
     end
 }
@@ -61,10 +59,8 @@ fn put_read(out: &mut Out, page: &mut [u8; PAGE], at: usize, read: Read) -> usiz
 
 // What is read at each place, at the end, and at the greatest place there is.
 fn read_places(out: &mut Out, s: &[u8]) {
-    let mut at: usize = 0;
-    while at < s.len() {
+    for at in 0..s.len() {
         read(out, s, at);
-        at = at + 1;
     }
     read(out, s, s.len());
     read(out, s, 18446744073709551615);
@@ -72,10 +68,8 @@ fn read_places(out: &mut Out, s: &[u8]) {
 
 // What is read of each prefix.
 fn read_prefixes(out: &mut Out, s: &[u8]) {
-    let mut k: usize = 0;
-    while k < s.len() {
+    for k in 0..s.len() {
         read(out, &s[..k], 0);
-        k = k + 1;
     }
     read(out, s, 0);
 }
@@ -105,11 +99,9 @@ fn number(out: &mut Out, n: u32) {
     let mut wide_buffer = [9u8; WIDE];
     write(out, &mut wide_buffer, 2, n);
     read(out, &wide_buffer, 2);
-    let mut k: usize = 0;
-    while k <= TIGHT {
+    for k in 0..=TIGHT {
         let mut buffer = [9u8; TIGHT];
         write(out, &mut buffer[..k], 1, n);
-        k = k + 1;
     }
     let mut last = [9u8; TIGHT];
     write(out, &mut last, 18446744073709551615, n);
@@ -128,11 +120,9 @@ fn main(rt: HostRuntime) -> Result<()> {
     let boundaries: [u32; 12] = [
         0, 1, 127, 128, 16383, 16384, 2097151, 2097152, 20000000, 20000001, 268435455, 268435456,
     ];
-    let mut i: usize = 0;
-    while i < 12 {
+    for i in 0..12 {
         number(&mut out, boundaries[i]);
         form(&mut out, boundaries[i]);
-        i = i + 1;
     }
     number(&mut out, 4294967295);
     read_places(&mut out, b"\x80\x00");

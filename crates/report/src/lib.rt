@@ -31,13 +31,11 @@ pub fn put_refused(
 pub fn put_path(out: &mut Out, page: &mut [u8; PAGE], at: usize, path: Trail) -> usize {
     let count = path.count;
     let mut end = console::number(out, page, at, b" path ", count as u64);
-    let mut k: usize = 0;
-    while k < 64 {
+    for k in 0..64 {
         if count <= k {
             return end;
         }
         end = console::number(out, page, end, b" ", path.parts[k] as u64);
-        k = k + 1;
     }
     end
 }

@@ -49,10 +49,8 @@ fn last_part(e: [Ticks; 64], n: usize) -> usize
     ensures { result ≡ last_of e n }
 {
     let mut last: usize = 0;
-    let mut k: usize = 0;
-    while k < n {
+    for k in 0..n {
         last = later(last, e[last], k, e[k]);
-        k = k + 1;
     }
     last
 }
@@ -74,13 +72,11 @@ fn backs(link: [Link; 256], n: usize, s: [Ticks; 64], e: [Ticks; 64]) -> [usize;
     ensures { InPlaces link n → result ≡ backs_of link s e n }
 {
     let mut back = all(64);
-    let mut k: usize = 0;
-    while k < n {
+    for k in 0..n {
         let l = link[k];
         let f = l.from % 64;
         let t = l.to % 64;
         back[t] = lesser(back[t], awaited(f, e[f], link_delay(l), s[t]));
-        k = k + 1;
     }
     back
 }

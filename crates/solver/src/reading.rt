@@ -19,10 +19,8 @@ fn nodes_from(work: &[u32; 968], first: usize, n: usize) -> [Ticks; 64]
     ensures { result ≡ nodes_from (time_in work.now) first n }
 {
     let mut times = no_ticks();
-    let mut k: usize = 0;
-    while k < n {
+    for k in 0..n {
         times[k] = Ticks(work[nets::TIME + (first + k)]);
-        k = k + 1;
     }
     times
 }
@@ -49,10 +47,8 @@ pub(crate) fn flow_of(work: &[u32; 968], arcs: usize) -> [u32; 448]
     ensures { FlowIn work.now arcs result }
 {
     let mut flow = no_loads();
-    let mut a: usize = 0;
-    while a < arcs {
+    for a in 0..arcs {
         flow[a] = work[nets::LOAD + a];
-        a = a + 1;
     }
     flow
 }

@@ -24,10 +24,8 @@ fn lay_parts(b: Board, net: &mut [u32; 2048])
     ensures { LaidIn 0 b.parts (part_span b) net.old net.new }
 {
     let parts = b.parts;
-    let mut p: usize = 0;
-    while p < parts {
+    for p in 0..parts {
         put(net, p, p, 64 + p, b.curve[p].fastest.0);
-        p = p + 1;
     }
 }
 
@@ -38,12 +36,10 @@ fn lay_links(b: Board, net: &mut [u32; 2048])
 {
     let parts = b.parts;
     let links = b.links;
-    let mut l: usize = 0;
-    while l < links {
+    for l in 0..links {
         let link = b.link[l];
         let delay = board::link_delay(link);
         put(net, parts + l, 64 + link.from, link.to, delay.0);
-        l = l + 1;
     }
 }
 
@@ -54,10 +50,8 @@ fn lay_entries(b: Board, net: &mut [u32; 2048])
 {
     let parts = b.parts;
     let first = parts + b.links;
-    let mut p: usize = 0;
-    while p < parts {
+    for p in 0..parts {
         put(net, first + p, 128, p, 0);
-        p = p + 1;
     }
 }
 
@@ -68,10 +62,8 @@ fn lay_exits(b: Board, net: &mut [u32; 2048])
 {
     let parts = b.parts;
     let first = parts + b.links + parts;
-    let mut p: usize = 0;
-    while p < parts {
+    for p in 0..parts {
         put(net, first + p, 64 + p, 129, 0);
-        p = p + 1;
     }
 }
 
@@ -80,13 +72,11 @@ fn lay_runs(b: Board, net: &mut [u32; 2048])
     ensures { RunsIn b 256 net.old net.new }
 {
     nets::seen(net);
-    let mut k: usize = 0;
-    while k < 256 {
+    for k in 0..256 {
         let curve = b.curve[k / 4];
         let run = curve.runs[k % 4];
         net[nets::LENGTH + k] = run.length.0;
         net[nets::SAVING + k] = run.saving.0;
-        k = k + 1;
     }
 }
 

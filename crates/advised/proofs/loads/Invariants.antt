@@ -6,6 +6,3 @@ use Rattle.advised.proofs.loads.Given as goal
 
 abbrev pub invariant-loop-k : goal.invariant-loop-k
 invariant-loop-k l = length l.all ≡ 448
-
-abbrev pub decreases-loop-k : goal.decreases-loop-k
-decreases-loop-k l = 448 - l.k

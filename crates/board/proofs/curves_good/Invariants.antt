@@ -7,6 +7,3 @@ use Rattle.board.proofs.curves_good.Given as goal
 
 abbrev pub invariant-loop-p : goal.invariant-loop-p
 invariant-loop-p l = (l.p ≤ 64) × (l.good ≡ every l.p (curve_test l.b))
-
-abbrev pub decreases-loop-p : goal.decreases-loop-p
-decreases-loop-p l = 64 - l.p

@@ -8,6 +8,3 @@ use Rattle.board.proofs.links_good.Given as goal
 
 abbrev pub invariant-loop-l : goal.invariant-loop-l
 invariant-loop-l l = (l.l ≤ 256) × ((l.good ≡ every l.l (link_test l.b)) × (l.before ≡ link_at l.b (l.l - 1)))
-
-abbrev pub decreases-loop-l : goal.decreases-loop-l
-decreases-loop-l l = 256 - l.l

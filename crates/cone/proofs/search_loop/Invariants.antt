@@ -6,6 +6,3 @@ use Rattle.cone.proofs.search_loop.Given as goal
 
 abbrev pub invariant-loop-p : goal.invariant-loop-p
 invariant-loop-p l = (l.p ≤ l.n) × (loop_up_to l.rows l.p ≡ Free)
-
-abbrev pub decreases-loop-p : goal.decreases-loop-p
-decreases-loop-p l = l.n - l.p

@@ -13,6 +13,3 @@ invariant-loop-i g l = (l.i ≤ length l.bytes)
     × (HasFailed l.initial.out → HasFailed l.out)
     × (l.i ≤ l.count)
     × GoesOn g.W.Write.contents l.initial.out l.initial.page l.at l.out l.page l.end (hex_of (take l.i l.bytes))
-
-abbrev pub decreases-loop-i : goal.decreases-loop-i
-decreases-loop-i g l = length l.bytes - l.i

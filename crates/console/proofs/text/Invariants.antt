@@ -11,6 +11,3 @@ invariant-loop-i g l = (l.i ≤ length l.word) × (text_end l.end (drop l.i l.wo
     × (text_on l.page l.end (drop l.i l.word) ≡ text_on l.initial.page l.at l.word)
     × (HasFailed l.initial.out → HasFailed l.out)
     × GoesOn g.W.Write.contents l.initial.out l.initial.page l.at l.out l.page l.end (take l.i l.word)
-
-abbrev pub decreases-loop-i : goal.decreases-loop-i
-decreases-loop-i g l = length l.word - l.i

@@ -10,6 +10,3 @@ use Rattle.design.proofs.read_links.Given as goal
 
 abbrev pub invariant-loop-l : goal.invariant-loop-l
 invariant-loop-l l = (l.l ≤ l.links) × (repeat (in_place (link_in l.s l.parts)) blank_links l.at l.l ≡ got l.link l.next) × (l.before ≡ get_or l.link (l.l - 1) no_link) × (length l.link ≡ 256)
-
-abbrev pub decreases-loop-l : goal.decreases-loop-l
-decreases-loop-l l = l.links - l.l

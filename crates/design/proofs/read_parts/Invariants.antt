@@ -8,6 +8,3 @@ use Rattle.design.proofs.read_parts.Given as goal
 
 abbrev pub invariant-loop-p : goal.invariant-loop-p
 invariant-loop-p l = (l.p ≤ l.parts) × (repeat (in_place (part_from l.s)) blank_curves l.at l.p ≡ got l.curve l.next)
-
-abbrev pub decreases-loop-p : goal.decreases-loop-p
-decreases-loop-p l = l.parts - l.p

@@ -8,6 +8,3 @@ use Rattle.design_write.proofs.links_size.Given as goal
 
 abbrev pub invariant-loop-l : goal.invariant-loop-l
 invariant-loop-l l = (l.l ≤ l.links) × (l.bytes ≡ length (links_bytes l.b l.l)) × (l.bytes ≤ 2 * groups * l.l)
-
-abbrev pub decreases-loop-l : goal.decreases-loop-l
-decreases-loop-l l = l.links - l.l

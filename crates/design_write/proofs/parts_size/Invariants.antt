@@ -8,6 +8,3 @@ use Rattle.design_write.proofs.parts_size.Given as goal
 
 abbrev pub invariant-loop-p : goal.invariant-loop-p
 invariant-loop-p l = (l.p ≤ l.parts) × (l.bytes ≡ length (parts_bytes l.b l.p)) × (l.bytes ≤ 11 * groups * l.p)
-
-abbrev pub decreases-loop-p : goal.decreases-loop-p
-decreases-loop-p l = l.parts - l.p

@@ -8,6 +8,3 @@ use Rattle.design_write.proofs.write_links.Given as goal
 
 abbrev pub invariant-loop-l : goal.invariant-loop-l
 invariant-loop-l l = (l.l ≤ l.links) × (WroteIfRoom l.initial.buf l.at (links_bytes l.b l.l) l.next l.buf) × (length l.buf ≡ length l.initial.buf)
-
-abbrev pub decreases-loop-l : goal.decreases-loop-l
-decreases-loop-l l = l.links - l.l

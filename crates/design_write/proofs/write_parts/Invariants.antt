@@ -8,6 +8,3 @@ use Rattle.design_write.proofs.write_parts.Given as goal
 
 abbrev pub invariant-loop-p : goal.invariant-loop-p
 invariant-loop-p l = (l.p ≤ l.parts) × (WroteIfRoom l.initial.buf l.at (parts_bytes l.b l.p) l.next l.buf) × (length l.buf ≡ length l.initial.buf)
-
-abbrev pub decreases-loop-p : goal.decreases-loop-p
-decreases-loop-p l = l.parts - l.p

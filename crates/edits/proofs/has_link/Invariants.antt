@@ -8,6 +8,3 @@ use Rattle.edits.proofs.has_link.Given as goal
 
 abbrev pub invariant-loop-l : goal.invariant-loop-l
 invariant-loop-l l = (l.l ≤ l.n) × (some l.l (ends_at l.b l.from l.to) ≡ false)
-
-abbrev pub decreases-loop-l : goal.decreases-loop-l
-decreases-loop-l l = l.n - l.l

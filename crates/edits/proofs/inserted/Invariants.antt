@@ -6,6 +6,3 @@ use Rattle.edits.proofs.inserted.Given as goal
 
 abbrev pub invariant-loop-k : goal.invariant-loop-k
 invariant-loop-k l = (l.k ≤ 256) × (l.new ≡ filled l.old (inserted_at l.old l.at l.x) l.k)
-
-abbrev pub decreases-loop-k : goal.decreases-loop-k
-decreases-loop-k l = 256 - l.k

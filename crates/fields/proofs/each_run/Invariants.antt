@@ -7,6 +7,3 @@ use Rattle.fields.proofs.each_run.Given as goal
 
 abbrev pub invariant-loop-i : goal.invariant-loop-i
 invariant-loop-i l = (l.i ≤ l.count) × (repeat (run_from l.s) l.initial.so_far l.at l.i ≡ got l.so_far l.next)
-
-abbrev pub decreases-loop-i : goal.decreases-loop-i
-decreases-loop-i l = l.count - l.i

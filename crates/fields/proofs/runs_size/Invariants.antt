@@ -8,6 +8,3 @@ use Rattle.fields.proofs.runs_size.Given as goal
 
 abbrev pub invariant-loop-i : goal.invariant-loop-i
 invariant-loop-i l = (l.i ≤ l.count) × (l.bytes ≡ length (runs_bytes l.c l.i)) × (l.bytes ≤ 2 * groups * l.i)
-
-abbrev pub decreases-loop-i : goal.decreases-loop-i
-decreases-loop-i l = l.count - l.i

@@ -8,6 +8,3 @@ use Rattle.fields.proofs.write_runs.Given as goal
 
 abbrev pub invariant-loop-i : goal.invariant-loop-i
 invariant-loop-i l = (l.i ≤ l.count) × (WroteIfRoom l.initial.buf l.at (runs_bytes l.c l.i) l.next l.buf) × (length l.buf ≡ length l.initial.buf)
-
-abbrev pub decreases-loop-i : goal.decreases-loop-i
-decreases-loop-i l = l.count - l.i

@@ -5,6 +5,3 @@ use Rattle.hosted.proofs.boddivarn_by_loop.Given as goal
 
 abbrev pub invariant-loop-k : goal.invariant-loop-k
 invariant-loop-k l = (l.k ≤ l.times) × LastOf (TotalOf l.file) l.k l.total
-
-abbrev pub decreases-loop-k : goal.decreases-loop-k
-decreases-loop-k l = l.times - l.k

@@ -5,6 +5,3 @@ use Rattle.hosted.proofs.boddivarn_upstream.Given as goal
 
 abbrev pub invariant-loop-k : goal.invariant-loop-k
 invariant-loop-k l = (l.k ≤ l.times) × LastOf (UpstreamOf l.d l.part) l.k l.set
-
-abbrev pub decreases-loop-k : goal.decreases-loop-k
-decreases-loop-k l = l.times - l.k

@@ -6,6 +6,3 @@ use Rattle.kin.proofs.gathered.Given as goal
 
 abbrev pub invariant-loop-k : goal.invariant-loop-k
 invariant-loop-k l = (l.k ≤ 64) × (l.s ≡ gathered_up_to l.rows l.seen l.set l.k)
-
-abbrev pub decreases-loop-k : goal.decreases-loop-k
-decreases-loop-k l = 64 - l.k

@@ -5,6 +5,3 @@ use Rattle.lasting.proofs.turn.Given as goal
 
 abbrev pub invariant-loop-k : goal.invariant-loop-k
 invariant-loop-k l = (l.k ≤ 2048) × TurningIn l.net l.k l.turned
-
-abbrev pub decreases-loop-k : goal.decreases-loop-k
-decreases-loop-k l = 2048 - l.k

@@ -7,6 +7,3 @@ use Rattle.names.proofs.are_plain.Given as goal
 
 abbrev pub invariant-loop-at : goal.invariant-loop-at
 invariant-loop-at l = (l.at ≤ l.end) × (all_plain (take (l.end - l.at) (drop l.at l.sheet)) ≡ all_plain (take (l.end - l.start) (drop l.start l.sheet)))
-
-abbrev pub decreases-loop-at : goal.decreases-loop-at
-decreases-loop-at l = l.end - l.at

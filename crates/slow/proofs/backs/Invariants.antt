@@ -7,6 +7,3 @@ use Rattle.slow.proofs.backs.Given as goal
 
 abbrev pub invariant-loop-k : goal.invariant-loop-k
 invariant-loop-k l = (l.k ≤ l.n) × (InPlaces l.link l.n → l.back ≡ backs_of l.link l.s l.e l.k)
-
-abbrev pub decreases-loop-k : goal.decreases-loop-k
-decreases-loop-k l = l.n - l.k

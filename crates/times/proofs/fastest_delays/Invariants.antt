@@ -7,6 +7,3 @@ use Rattle.times.proofs.fastest_delays.Given as goal
 
 abbrev pub invariant-loop-k : goal.invariant-loop-k
 invariant-loop-k l = (l.k ≤ l.n) × (l.d ≡ ticks_row l.k (view l.b).fastest)
-
-abbrev pub decreases-loop-k : goal.decreases-loop-k
-decreases-loop-k l = l.n - l.k

@@ -6,6 +6,3 @@ use Rattle.times.proofs.in_rounds.Given as goal
 
 abbrev pub invariant-loop-k : goal.invariant-loop-k
 invariant-loop-k l = (l.k ≤ 65) × (l.e ≡ round_of l.link l.links l.parts l.delay l.k)
-
-abbrev pub decreases-loop-k : goal.decreases-loop-k
-decreases-loop-k l = 65 - l.k

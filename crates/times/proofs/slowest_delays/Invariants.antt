@@ -8,6 +8,3 @@ use Rattle.times.proofs.slowest_delays.Given as goal
 
 abbrev pub invariant-loop-k : goal.invariant-loop-k
 invariant-loop-k l = (l.k ≤ l.n) × (WellFormed l.b → l.d ≡ ticks_row l.k (slowest_at l.b))
-
-abbrev pub decreases-loop-k : goal.decreases-loop-k
-decreases-loop-k l = l.n - l.k

@@ -6,6 +6,3 @@ use Rattle.times.proofs.starts.Given as goal
 
 abbrev pub invariant-loop-k : goal.invariant-loop-k
 invariant-loop-k l = (l.k ≤ l.n) × (l.s ≡ starts_of l.link l.k l.e)
-
-abbrev pub decreases-loop-k : goal.decreases-loop-k
-decreases-loop-k l = l.n - l.k

@@ -4,6 +4,3 @@ use Rattle.advice.proofs.pivoting.worst.Given as goal
 
 abbrev pub invariant-loop-a : goal.invariant-loop-a
 invariant-loop-a l = l.a ≤ 449
-
-abbrev pub decreases-loop-a : goal.decreases-loop-a
-decreases-loop-a l = 449 - l.a

@@ -6,6 +6,3 @@ use Rattle.curve.proofs.Curve.affords_savings.Given as goal
 
 abbrev pub invariant-loop-k : goal.invariant-loop-k
 invariant-loop-k l = (l.k ≤ l.n) × (l.left + saved_to l.self l.k ≡ l.self.power.0)
-
-abbrev pub decreases-loop-k : goal.decreases-loop-k
-decreases-loop-k l = l.n - l.k

@@ -7,6 +7,3 @@ use Rattle.curve.proofs.Curve.next_saving.Given as goal
 
 abbrev pub invariant-loop-k : goal.invariant-loop-k
 invariant-loop-k l = (l.k ≤ l.n) × (l.left + sum l.k (length_at l.self) ≡ l.initial.left)
-
-abbrev pub decreases-loop-k : goal.decreases-loop-k
-decreases-loop-k l = l.n - l.k

@@ -7,6 +7,3 @@ use Rattle.curve.proofs.Curve.places_are_good.Given as goal
 
 abbrev pub invariant-loop-k : goal.invariant-loop-k
 invariant-loop-k l = (l.k ≤ 4) × (every l.k (placeb l.self) ≡ true)
-
-abbrev pub decreases-loop-k : goal.decreases-loop-k
-decreases-loop-k l = 4 - l.k

@@ -6,6 +6,3 @@ use Rattle.curve.proofs.Curve.slowest.Given as goal
 
 abbrev pub invariant-loop-k : goal.invariant-loop-k
 invariant-loop-k l = (l.k ≤ l.n) × (l.delay.0 ≡ min (slow_to l.self l.k) 4294967295)
-
-abbrev pub decreases-loop-k : goal.decreases-loop-k
-decreases-loop-k l = l.n - l.k

@@ -5,6 +5,3 @@ use Rattle.deciding.proofs.balancing.balanced.Given as goal
 
 abbrev pub invariant-loop-v : goal.invariant-loop-v
 invariant-loop-v l = (l.v ≤ 128) × LevelIn l.v l.work
-
-abbrev pub decreases-loop-v : goal.decreases-loop-v
-decreases-loop-v l = 128 - l.v

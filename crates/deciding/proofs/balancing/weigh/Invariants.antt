@@ -5,6 +5,3 @@ use Rattle.deciding.proofs.balancing.weigh.Given as goal
 
 abbrev pub invariant-loop-a : goal.invariant-loop-a
 invariant-loop-a l = (l.a ≤ l.arcs) × WeighingIn l.net l.initial.work l.a l.work
-
-abbrev pub decreases-loop-a : goal.decreases-loop-a
-decreases-loop-a l = l.arcs - l.a

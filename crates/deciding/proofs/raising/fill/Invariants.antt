@@ -5,6 +5,3 @@ use Rattle.deciding.proofs.raising.fill.Given as goal
 
 abbrev pub invariant-loop-k : goal.invariant-loop-k
 invariant-loop-k l = (l.k ≤ l.n) × FilledIn l.initial.work l.from l.n l.y l.k l.work
-
-abbrev pub decreases-loop-k : goal.decreases-loop-k
-decreases-loop-k l = l.n - l.k

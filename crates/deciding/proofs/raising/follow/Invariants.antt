@@ -5,6 +5,3 @@ use Rattle.deciding.proofs.raising.follow.Given as goal
 
 abbrev pub invariant-loop-k : goal.invariant-loop-k
 invariant-loop-k l = (l.k ≤ 130) × FollowedIn l.net l.due l.initial.work l.work
-
-abbrev pub decreases-loop-k : goal.decreases-loop-k
-decreases-loop-k l = 130 - l.k

@@ -8,6 +8,3 @@ use Rattle.mainloop.proofs.judging.run_at.Given as goal
 
 abbrev pub invariant-loop-i : goal.invariant-loop-i
 invariant-loop-i l = (l.i ≤ 4) × ((l.begin ≡ sum l.i (length_at (lengths_in l.net) l.a)) × (l.begin ≤ l.j))
-
-abbrev pub decreases-loop-i : goal.decreases-loop-i
-decreases-loop-i l = 4 - l.i

@@ -5,6 +5,3 @@ use Rattle.mainloop.proofs.judging.scan.Given as goal
 
 abbrev pub invariant-loop-a : goal.invariant-loop-a
 invariant-loop-a l = (l.a ≤ l.arcs) × Scanning l.net l.work l.most l.a l.slack
-
-abbrev pub decreases-loop-a : goal.decreases-loop-a
-decreases-loop-a l = l.arcs - l.a

@@ -7,6 +7,3 @@ use Rattle.mainloop.proofs.lowering.shift.Given as goal
 
 abbrev pub invariant-loop-v : goal.invariant-loop-v
 invariant-loop-v l = (l.v ≤ 130) × ((length l.work ≡ 968) × ShiftedIn l.initial.work l.d l.v l.work)
-
-abbrev pub decreases-loop-v : goal.decreases-loop-v
-decreases-loop-v l = 130 - l.v

@@ -5,6 +5,3 @@ use Rattle.solver.proofs.finding.begin.Given as goal
 
 abbrev pub invariant-loop-k : goal.invariant-loop-k
 invariant-loop-k l = (l.k ≤ 64) × Placing l.start l.end l.due l.k l.t l.most
-
-abbrev pub decreases-loop-k : goal.decreases-loop-k
-decreases-loop-k l = 64 - l.k

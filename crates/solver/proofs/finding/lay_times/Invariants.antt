@@ -5,6 +5,3 @@ use Rattle.solver.proofs.finding.lay_times.Given as goal
 
 abbrev pub invariant-loop-v : goal.invariant-loop-v
 invariant-loop-v l = (l.v ≤ 130) × LateIn l.t l.v l.initial.net l.net
-
-abbrev pub decreases-loop-v : goal.decreases-loop-v
-decreases-loop-v l = 130 - l.v

@@ -5,6 +5,3 @@ use Rattle.solver.proofs.reading.flow_of.Given as goal
 
 abbrev pub invariant-loop-a : goal.invariant-loop-a
 invariant-loop-a l = (l.a ≤ l.arcs) × FlowIn l.work l.a l.flow
-
-abbrev pub decreases-loop-a : goal.decreases-loop-a
-decreases-loop-a l = l.arcs - l.a

@@ -6,6 +6,3 @@ use Rattle.solver.proofs.reading.nodes_from.Given as goal
 
 abbrev pub invariant-loop-k : goal.invariant-loop-k
 invariant-loop-k l = (l.k ≤ l.n) × (l.times ≡ nodes_from (time_in l.work) l.first l.k)
-
-abbrev pub decreases-loop-k : goal.decreases-loop-k
-decreases-loop-k l = l.n - l.k

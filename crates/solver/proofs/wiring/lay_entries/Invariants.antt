@@ -5,6 +5,3 @@ use Rattle.solver.proofs.wiring.lay_entries.Given as goal
 
 abbrev pub invariant-loop-p : goal.invariant-loop-p
 invariant-loop-p l = (l.p ≤ l.parts) × LaidIn l.first l.p entry_span l.initial.net l.net
-
-abbrev pub decreases-loop-p : goal.decreases-loop-p
-decreases-loop-p l = l.parts - l.p

@@ -5,6 +5,3 @@ use Rattle.solver.proofs.wiring.lay_links.Given as goal
 
 abbrev pub invariant-loop-l : goal.invariant-loop-l
 invariant-loop-l l = (l.l ≤ l.b.links) × LaidIn l.b.parts l.l (link_span l.b) l.initial.net l.net
-
-abbrev pub decreases-loop-l : goal.decreases-loop-l
-decreases-loop-l l = l.b.links - l.l

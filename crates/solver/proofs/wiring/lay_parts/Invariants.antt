@@ -5,6 +5,3 @@ use Rattle.solver.proofs.wiring.lay_parts.Given as goal
 
 abbrev pub invariant-loop-p : goal.invariant-loop-p
 invariant-loop-p l = (l.p ≤ l.b.parts) × LaidIn 0 l.p (part_span l.b) l.initial.net l.net
-
-abbrev pub decreases-loop-p : goal.decreases-loop-p
-decreases-loop-p l = l.b.parts - l.p

@@ -5,6 +5,3 @@ use Rattle.solver.proofs.wiring.lay_runs.Given as goal
 
 abbrev pub invariant-loop-k : goal.invariant-loop-k
 invariant-loop-k l = (l.k ≤ 256) × RunsIn l.b l.k l.initial.net l.net
-
-abbrev pub decreases-loop-k : goal.decreases-loop-k
-decreases-loop-k l = 256 - l.k
