@@ -40,7 +40,7 @@ fn offer_join(net: &[u32; 2048], s: &mut [u32; 8192], v: u32) {
 // All nodes that are one with node v.
 fn offer_members(net: &[u32; 2048], s: &mut [u32; 8192], v: u32) {
     let mut up = get(s, MEMBER, v);
-    for k in 0..130 {
+    for _ in 0..130 {
         if up == 0 {
             return;
         }
@@ -67,7 +67,7 @@ fn offer_node(net: &[u32; 2048], s: &mut [u32; 8192], v: u32) {
 // The nodes of the tree, each after its parent.
 fn offer_tree(net: &[u32; 2048], s: &mut [u32; 8192]) {
     let mut v = SOURCE;
-    for k in 0..130 {
+    for _ in 0..130 {
         v = get(s, NEXT, v);
         if v == SOURCE {
             return;

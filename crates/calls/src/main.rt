@@ -56,7 +56,7 @@ fn main(rt: HostRuntime) -> Result<()> {
 fn answer_calls(source: &mut File, out: &mut Out, page: &mut [u8; PAGE]) -> usize {
     let mut session = begin();
     let mut at: usize = 0;
-    for count in 0..MOST {
+    for _ in 0..MOST {
         let call = input::byte(source);
         if !call.there {
             return at;

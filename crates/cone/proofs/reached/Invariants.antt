@@ -4,4 +4,4 @@ use Rattle.cone.specs.Sweeps.{sweep_up_to}
 use Rattle.cone.proofs.reached.Given as goal
 
 abbrev pub invariant-loop-k : goal.invariant-loop-k
-invariant-loop-k l = (l.k ≤ 64) × (l.s ≡ sweep_up_to l.rows l.from l.k)
+invariant-loop-k l = (l._k ≤ 64) × (l.s ≡ sweep_up_to l.rows l.from l._k)

@@ -5,4 +5,4 @@ use Rattle.times.proofs.Rounds.{round_of}
 use Rattle.times.proofs.in_rounds.Given as goal
 
 abbrev pub invariant-loop-k : goal.invariant-loop-k
-invariant-loop-k l = (l.k ≤ 65) × (l.e ≡ round_of l.link l.links l.parts l.delay l.k)
+invariant-loop-k l = (l._k ≤ 65) × (l.e ≡ round_of l.link l.links l.parts l.delay l._k)
