@@ -14,6 +14,7 @@ use lib.Dec.{ltb}
 use borrow.Author.Tests.{lt-ltb, le-ltb, eq-eqb, ne_eqb}
 use Rattle.base.specs.Pick.{pick}
 use Rattle.base.proofs.Cases.{lt_or_le, eq_or_ne}
+use Rattle.std.specs.Prelude.{Ok, Err}
 use Rattle.refusal.specs.declared.Why.{Why}
 use Rattle.refusal.specs.declared.Why.TheVariants.{CutShort, NotShortest}
 use Rattle.refusal.specs.Refusal.{refused}
@@ -41,9 +42,9 @@ by_group s first at Q ends last longer on = ⊎_elim
     (lt_or_le at (length s))
 
 -- ---- where a refusal's place is
-unfoldable pub Placed : List ℕ → ℕ → Read → Type 0
-Placed s first (got v n) = Unit {0}
-Placed s first (refused w p) = ((w ≡ CutShort) × (p ≡ length s)) ⊎ ((w ≡ NotShortest) × (p ≡ first))
+unfoldable pub Placed : List ℕ → ℕ → Parse ℕ → Type 0
+Placed s first (Ok r) = Unit {0}
+Placed s first (Err e) = ((e.why ≡ CutShort) × (e.place ≡ length s)) ⊎ ((e.why ≡ NotShortest) × (e.place ≡ first))
 
 groups_placed : (left : ℕ) (s : List ℕ) (first at scale sum : ℕ) → Placed s first (groups_from left s first at scale sum)
 unfolding Placed groups_from
@@ -69,9 +70,9 @@ pub place_le : (s : List ℕ) (at : ℕ) (w : Why) (p : ℕ) → at ≤ length s
 place_le s at w p within is = ⊎_elim (λ cut. omega (arith, cut.1)) (λ long. omega (arith, long.1)) (refused_place s at w p is)
 
 -- ---- reading goes by the bytes from its place on: what stands before them only moves the places
-unfoldable pub moved : ℕ → Read → Read
-moved k (got v n) = got v (k + n)
-moved k (refused w p) = refused w (k + p)
+unfoldable pub moved : ℕ → Parse ℕ → Parse ℕ
+moved k (Ok r) = got r.value (k + r.next)
+moved k (Err e) = refused e.why (k + e.place)
 
 moved_number : (k v n : ℕ) → moved k (got v n) ≡ got v (k + n)
 unfolding moved
@@ -81,7 +82,7 @@ moved_refused : (k : ℕ) (w : Why) (p : ℕ) → moved k (refused w p) ≡ refu
 unfolding moved
 moved_refused k w p = refl
 
-moved_pick : (k : ℕ) (t : Bool) (a b : Read) → moved k (pick t a b) ≡ pick t (moved k a) (moved k b)
+moved_pick : (k : ℕ) (t : Bool) (a b : Parse ℕ) → moved k (pick t a b) ≡ pick t (moved k a) (moved k b)
 unfolding pick
 moved_pick k true a b = refl
 moved_pick k false a b = refl

@@ -16,7 +16,8 @@ use Rattle.base.specs.Pick.{pick}
 use Rattle.base.proofs.Cases.{lt_or_le, eq_or_ne}
 use Rattle.refusal.specs.declared.Why.TheVariants.{CutShort, NotShortest}
 use Rattle.refusal.specs.Refusal.{refused}
-use Rattle.groups.specs.Parse.{Parse, got}
+use Rattle.groups.specs.declared.Read.{Read}
+use Rattle.groups.specs.Parse.{got}
 use Rattle.groups.specs.Number.{groups, limit, shortest_end, groups_from, number_at, encode_in, encode}
 use Rattle.groups.proofs.Groups.{input_ends, number_ends, longer_than_needed, goes_on}
 use Rattle.groups.proofs.Forms.{in_last, in_more, rest_less, one_left, encode_is}
@@ -104,8 +105,9 @@ take_byte s at n above more =
 module _ (left : ℕ) (s : List ℕ) (first at scale sum v n : ℕ) where
   last_form : at < length s → get_or s at 0 < 128 → shortest_end first at (get_or s at 0) ≡ true → got (sum + get_or s at 0 % 128 * scale) (at + 1) ≡ got v n → Form (suc left) s first at scale sum v n
   last_form more last short is =
-      let value : sum + get_or s at 0 % 128 * scale ≡ v = cc in
-      let next : at + 1 ≡ n = cc in
+      let same : ◌≡◌ {A = Read ℕ} (record { value = sum + get_or s at 0 % 128 * scale; next = at + 1 }) (record { value = v; next = n }) = cc in
+      let value : sum + get_or s at 0 % 128 * scale ≡ v = ap (λ (r : Read ℕ). r.value) same in
+      let next : at + 1 ≡ n = ap (λ (r : Read ℕ). r.next) same in
       let none : n - (at + 1) ≡ 0 = omega arith in
       record {
         worth = get_or s at 0;
@@ -173,6 +175,6 @@ number_ends_at s at v n all is =
     omega (arith, known.0, known.1, rw (length-take-le (n - at) (drop at s) (rw length-drop (omega arith))) at long)
 
 -- ---- 01, Boards to try, case (11): "`80 01` is 128; `80 00` is refusal 2"
-pub case_11 : (number_at (128 ∷ 1 ∷ []) 0 ≡ Number 128 2) × (number_at (128 ∷ 0 ∷ []) 0 ≡ refused NotShortest 0)
+pub case_11 : (number_at (128 ∷ 1 ∷ []) 0 ≡ got 128 2) × (number_at (128 ∷ 0 ∷ []) 0 ≡ refused NotShortest 0)
 unfolding number_at groups_from shortest_end pick
 case_11 = (refl, refl)
