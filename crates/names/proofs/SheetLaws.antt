@@ -10,11 +10,13 @@ use native.Mathlib.Omega.{arith}
 use native.Mathlib.Numerals.{add-one}
 use lib.ListN.{length, get_or, take, drop, drop_of_length-le, length-take, length-drop}
 use lib.Seq.{drop-cons}
-use borrow.Author.Tests.{eq-eqb, ne_eqb, le-leb, lt-leb}
+use lib.Dec.{eqb}
+use borrow.Author.Tests.{eqb-true, eq-eqb, ne_eqb, le-leb, lt-leb}
+use Rattle.std.specs.Prelude.{Ok, Err}
 use Rattle.base.specs.Pick.{pick}
 use Rattle.base.proofs.Cases.{lt_or_le}
-use Rattle.refusal.specs.declared.Answer.TheVariants.{Done}
-use Rattle.refusal.specs.Refusal.{refusal}
+use Rattle.refusal.specs.declared.Refusal.{Refusal}
+use Rattle.refusal.specs.Refusal.{by, refusal_at, refusal}
 use Rattle.names.specs.Sheet.{first_line, past_line, from_line, line_of, plain, all_plain, good_label, label_of, label_place, label_answer}
 
 -- ---- `line_start`: the lines left from `at` on are those that were left from the start
@@ -198,7 +200,7 @@ good_some l good =
     (lt_or_le (length l) 1)
 
 module _ (s : List ℕ) (n : ℕ) where
-  label_good : good_label (line_of s n) ≡ true → (label_of s n ≡ line_of s n) × (label_answer s n ≡ Done)
+  label_good : good_label (line_of s n) ≡ true → (label_of s n ≡ line_of s n) × (label_answer s n ≡ Ok tt)
   unfolding label_of label_answer pick
   label_good good = (rw good, rw good)
 
@@ -210,21 +212,24 @@ module _ (s : List ℕ) (n : ℕ) where
   empty_by true good none = absurd (omega (arith, good_some (line_of s n) good, ap length (label_good good).0))
   empty_by false bad none = (label_bad bad).1
 
-  some_by : (t : Bool) → good_label (line_of s n) ≡ t → (length (label_of s n) ≡ 0 → ⊥) → label_answer s n ≡ Done
+  some_by : (t : Bool) → good_label (line_of s n) ≡ t → (length (label_of s n) ≡ 0 → ⊥) → label_answer s n ≡ Ok tt
   some_by true good some = (label_good good).1
   some_by false bad some = absurd (some (ap length (label_bad bad).0))
 
   refused_by : (t : Bool) → good_label (line_of s n) ≡ t → label_answer s n ≡ refusal 20 0 → label_of s n ≡ []
   refused_by true good e =
-      let off : Done ≡ refusal 20 0 = sym (label_good good).1 ∙ e in
+      let off : Ok tt ≡ refusal 20 0 = sym (label_good good).1 ∙ e in
       absurd (let z : ◌≡◌ {A = ℕ} 0 1 = cc in omega arith)
   refused_by false bad e = (label_bad bad).0
 
-  pub no_label : (l : List ℕ) → l ≡ label_of s n → length l ≡ 0 → refusal 20 0 ≡ label_answer s n
-  no_label l is none = sym (empty_by (good_label (line_of s n)) refl (sym (ap length is) ∙ none))
+  pub no_label : (l : List ℕ) (t : Bool) (e : Refusal) → l ≡ label_of s n → t ≡ eqb (length l) 0 → t ≡ true → e ≡ refusal_at (by 20) 0 → Err e ≡ label_answer s n
+  no_label l t e is test empty fault =
+      let none : length l ≡ 0 = eqb-true (length l) 0 (sym test ∙ empty) in
+      ap Err fault ∙ sym (empty_by (good_label (line_of s n)) refl (sym (ap length is) ∙ none))
 
-  pub a_label : (l : List ℕ) → l ≡ label_of s n → (length l ≡ 0 → ⊥) → Done ≡ label_answer s n
-  a_label l is some = sym (some_by (good_label (line_of s n)) refl (λ none. some (ap length is ∙ none)))
+  pub a_label : (l : List ℕ) (t : Bool) → l ≡ label_of s n → t ≡ eqb (length l) 0 → t ≡ false → Ok tt ≡ label_answer s n
+  a_label l t is test some =
+      sym (some_by (good_label (line_of s n)) refl (λ none. let z : true ≡ false = sym (eq-eqb _ _ (ap length is ∙ none)) ∙ sym test ∙ some in cc))
 
   -- "20 .. an empty stretch": refused exactly where the stretch is empty
   pub label_refused : (label_answer s n ≡ refusal 20 0) ↔ (label_of s n ≡ [])

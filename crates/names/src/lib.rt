@@ -55,7 +55,7 @@ fn line_end(sheet: &[u8], start: usize) -> usize
 fn is_plain(byte: u8) -> bool
     ensures { result ≡ plain byte }
 {
-    if 33 <= byte { byte <= 126 } else { false }
+    33 <= byte && byte <= 126
 }
 
 // Whether all bytes from `start` to `end` are plain.
@@ -96,12 +96,8 @@ pub fn label(sheet: &[u8], line: usize) -> &[u8]
 pub fn label_answer(sheet: &[u8], line: usize) -> Answer
     ensures { result ≡ label_answer sheet.now line }
 {
-    let found = label(sheet, line);
-    if found.len() == 0 {
-        return Answer::Refused {
-            why: Why::NoLabel,
-            place: 0,
-        };
+    if label(sheet, line).is_empty() {
+        return Err(Why::NoLabel.at(0));
     }
-    Answer::Done
+    Ok(())
 }
