@@ -1,6 +1,6 @@
 -- What the loop keeps, and its measure.
 use mathlib.Core.Path.{◌≡◌}
-use Prim.Native.Nat.{◌≤◌, ◌+◌, ◌-◌}
+use Prim.Native.Nat.{◌≤◌, ◌+◌}
 use Rattle.curve.proofs.Ways.{saved_to}
 use Rattle.curve.proofs.Curve.affords_savings.Given as goal
 

@@ -1,6 +1,6 @@
 -- What the loop keeps, and its measure.
 use mathlib.Core.Path.{◌≡◌}
-use Prim.Native.Nat.{◌≤◌, ◌+◌, ◌-◌}
+use Prim.Native.Nat.{◌≤◌, ◌+◌}
 use Rattle.theory.specs.Sum.{sum}
 use Rattle.curve.specs.Curve.{length_at}
 use Rattle.curve.proofs.Curve.next_saving.Given as goal

@@ -1,6 +1,6 @@
 -- What the loop keeps, and its measure.
 use mathlib.Core.Path.{◌≡◌}
-use Prim.Native.Nat.{◌≤◌, ◌-◌}
+use Prim.Native.Nat.{◌≤◌}
 use mathlib.Core.Bool.{true}
 use Rattle.curve.specs.Tests.{every, placeb}
 use Rattle.curve.proofs.Curve.places_are_good.Given as goal

@@ -1,6 +1,6 @@
 -- What the loop keeps, and its measure.
 use mathlib.Core.Path.{◌≡◌}
-use Prim.Native.Nat.{◌≤◌, ◌-◌}
+use Prim.Native.Nat.{◌≤◌}
 use Rattle.curve.proofs.Ways.{slowed_to}
 use Rattle.curve.proofs.Curve.power_at.Given as goal
 

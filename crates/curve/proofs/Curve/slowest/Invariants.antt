@@ -1,6 +1,6 @@
 -- What the loop keeps, and its measure.
 use mathlib.Core.Path.{◌≡◌}
-use Prim.Native.Nat.{◌≤◌, ◌-◌, min}
+use Prim.Native.Nat.{◌≤◌, min}
 use Rattle.curve.proofs.Ways.{slow_to}
 use Rattle.curve.proofs.Curve.slowest.Given as goal
 

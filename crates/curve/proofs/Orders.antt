@@ -1,0 +1,60 @@
+-- What the derived orders of ticks and microwatts say of their numbers.
+-- Assumes nothing.
+use Rattle.std.proofs.Common.{◌≡◌, ℕ, ◌<◌, ◌≤◌, min, max, Bool, true, false, cond, sym, ◌∙◌, arith}
+use Rattle.std.specs.Ordering.{nat_cmp, is_lt, is_le, MatchOrdering}
+use Rattle.std.specs.declared.cmp.Ordering.{Ordering}
+use Rattle.std.specs.declared.cmp.Ordering.TheVariants.{Less, Equal, Greater}
+use Rattle.std.specs.Cmp.{ranks}
+use Rattle.curve.specs.declared.Ticks.{Ticks}
+
+module _ (a b : ℕ) where
+  by_less : (r : Ordering) → MatchOrdering r (a < b) (a ≡ b) (b < a) → is_lt r ≡ true → a < b
+  by_less Less h is = h
+  by_less Equal h is = cc
+  by_less Greater h is = cc
+
+  by_not_less : (r : Ordering) → MatchOrdering r (a < b) (a ≡ b) (b < a) → is_lt r ≡ false → b ≤ a
+  by_not_less Less h is = cc
+  by_not_less Equal h is = omega arith
+  by_not_less Greater h is = omega arith
+
+  by_le : (r : Ordering) → MatchOrdering r (a < b) (a ≡ b) (b < a) → is_le r ≡ true → a ≤ b
+  by_le Less h is = omega arith
+  by_le Equal h is = omega arith
+  by_le Greater h is = cc
+
+  by_not_le : (r : Ordering) → MatchOrdering r (a < b) (a ≡ b) (b < a) → is_le r ≡ false → b < a
+  by_not_le Less h is = cc
+  by_not_le Equal h is = cc
+  by_not_le Greater h is = h
+
+  module _ (r : Bool) where
+    pub lt_from : r ≡ is_lt (nat_cmp a b) → r ≡ true → a < b
+    lt_from is t = by_less (nat_cmp a b) (ranks a b) (sym is ∙ t)
+
+    pub le_from_not_lt : r ≡ is_lt (nat_cmp a b) → r ≡ false → b ≤ a
+    le_from_not_lt is t = by_not_less (nat_cmp a b) (ranks a b) (sym is ∙ t)
+
+    pub le_from : r ≡ is_le (nat_cmp a b) → r ≡ true → a ≤ b
+    le_from is t = by_le (nat_cmp a b) (ranks a b) (sym is ∙ t)
+
+    pub lt_from_not_le : r ≡ is_le (nat_cmp a b) → r ≡ false → b < a
+    lt_from_not_le is t = by_not_le (nat_cmp a b) (ranks a b) (sym is ∙ t)
+
+-- the greater and the lesser of two counts of ticks
+module _ (a b : Ticks) where
+  greater_by : (r : Ordering) → MatchOrdering r (b.0 < a.0) (b.0 ≡ a.0) (a.0 < b.0) → (cond (is_lt r) a b).0 ≡ max a.0 b.0
+  greater_by Less h = omega arith
+  greater_by Equal h = omega arith
+  greater_by Greater h = omega arith
+
+  lesser_by : (r : Ordering) → MatchOrdering r (b.0 < a.0) (b.0 ≡ a.0) (a.0 < b.0) → (cond (is_lt r) b a).0 ≡ min a.0 b.0
+  lesser_by Less h = omega arith
+  lesser_by Equal h = omega arith
+  lesser_by Greater h = omega arith
+
+  pub max_is : (cond (is_lt (nat_cmp b.0 a.0)) a b).0 ≡ max a.0 b.0
+  max_is = greater_by (nat_cmp b.0 a.0) (ranks b.0 a.0)
+
+  pub min_is : (cond (is_lt (nat_cmp b.0 a.0)) b a).0 ≡ min a.0 b.0
+  min_is = lesser_by (nat_cmp b.0 a.0) (ranks b.0 a.0)
