@@ -2,12 +2,13 @@
 -- Assumes nothing.
 use mathlib.Core.Path.{◌≡◌, sym, ◌∙◌}
 use mathlib.Core.List.{List, ◌++◌}
-use Prim.Native.Nat.{ℕ, ◌+◌, ◌≤◌, ◌<◌}
+use mathlib.Core.Logic.{⊎_elim}
+use Prim.Native.Nat.{ℕ, ◌+◌, ◌≤◌, ◌<◌, min}
 use native.Mathlib.Omega.{arith}
 use lib.ListN.{length, length-append}
-use Rattle.base.proofs.Cases.{finished}
+use Rattle.base.proofs.Cases.{lt_or_le, finished}
 use Rattle.groups.specs.Number.{groups, limit, encode}
-use Rattle.groups.proofs.Forms.{encode_none, size_le}
+use Rattle.groups.proofs.Forms.{limit_is, encode_none, size_le}
 use Rattle.curve.specs.declared.Run.{Run}
 use Rattle.curve.specs.declared.Curve.{Curve}
 use Rattle.curve.specs.Curve.{run_at}
@@ -17,8 +18,11 @@ use Rattle.fields.proofs.CurveFileLaws.{curve_form, curve_no_form}
 use Rattle.fields.proofs.WritingLaws.{then_wrote, both_wrote, nothing_to_write, row_none, row_counted, row_wrote_none, row_wrote_more, row_ended}
 
 -- ---- `narrow`: what reaches the limit has the limit's form, which is none
-pub limit_form : (n : ℕ) → limit ≤ n → encode limit ≡ encode n
-limit_form n most = encode_none limit (omega arith) ∙ sym (encode_none n most)
+pub limit_form : (n m : ℕ) → m ≡ min n limit → encode m ≡ encode n
+limit_form n m is = ⊎_elim
+    (λ (less : n < limit). let same : m ≡ n = omega (arith, limit_is) in rw same)
+    (λ (most : limit ≤ n). encode_none m (omega (arith, limit_is)) ∙ sym (encode_none n most))
+    (lt_or_le n limit)
 
 -- ---- sizes
 pub form_counted : (n m r : ℕ) → encode m ≡ encode n → r ≡ length (encode m) → r ≡ length (encode n)

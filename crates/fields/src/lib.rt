@@ -3,58 +3,24 @@
 
 ghost use Rattle.std.specs.Prelude.{◌≡◌, ◌*◌, ◌≤◌, ◌<◌, length};
 ghost use Rattle.groups.specs.Number.{groups, encode};
-ghost use Rattle.fields.specs.Parse.{number, ranged_at, field_at, stop, repeat};
-ghost use Rattle.fields.specs.CurveFile.{bare, falls, run_from, runs_from, curve_from, curve_read, run_bytes, runs_bytes, curve_bytes};
+ghost use Rattle.fields.specs.Parse.{field_at, repeat};
+ghost use Rattle.fields.specs.CurveFile.{bare, falls, run_from, runs_from, curve_from, run_bytes, runs_bytes, curve_bytes};
 ghost use Rattle.fields.specs.Writing.{WroteIfRoom, WroteOrNothing};
 
 use curve::{Curve, Microwatts, Run, Ticks};
 use groups::Read;
 use refusal::{Answer, Why};
 
-// A curve and the place past it, or the first fault.
-#[derive(Clone, Copy)]
-pub struct CurveRead {
-    pub answer: Answer,
-    pub next: usize,
-    pub curve: Curve,
-}
-
 // The number at a place, which must be from `low` to `high`.
-pub fn field(s: &[u8], at: usize, low: u32, high: u32) -> Read
-    ensures { number result ≡ field_at s.now low high at }
+#[tactic(auto, using(base::proofs::Tests::tests), unfolding(crate::specs::Parse::field_at, crate::specs::Parse::and_then, crate::specs::Parse::ranged_at, base::specs::Pick::pick))]
+pub fn field(s: &[u8], at: usize, low: u32, high: u32) -> Answer<Read<u32>>
+    ensures { result ≡ field_at s.now low high at }
 {
-    match groups::read_number(s, at) {
-        Read::Refused { why, place } => Read::Refused { why, place },
-        Read::Number { value, next } => in_range(value, next, at, low, high),
+    let read = groups::read_number(s, at)?;
+    if read.value < low || high < read.value {
+        return Err(Why::OutOfRange.at(at));
     }
-}
-
-fn in_range(value: u32, next: usize, at: usize, low: u32, high: u32) -> Read
-    ensures { number result ≡ ranged_at low high at value next }
-{
-    if value < low {
-        return Read::Refused {
-            why: Why::OutOfRange,
-            place: at,
-        };
-    }
-    if high < value {
-        return Read::Refused {
-            why: Why::OutOfRange,
-            place: at,
-        };
-    }
-    Read::Number { value, next }
-}
-
-fn refused(why: Why, place: usize) -> CurveRead
-    ensures { result ≡ curve_read (stop why place) }
-{
-    CurveRead {
-        answer: Answer::Refused { why, place },
-        next: 0,
-        curve: bare_curve(Ticks(0), Microwatts(0), 0),
-    }
+    Ok(read)
 }
 
 // A curve before its runs are read.
@@ -74,124 +40,78 @@ fn bare_curve(fastest: Ticks, power: Microwatts, count: usize) -> Curve
 }
 
 // Whether a saving of run i is below that of the run before it.
+#[tactic(auto, using(base::proofs::Tests::tests), unfolding(crate::specs::CurveFile::falls, curve::specs::Curve::saving_at, base::specs::Pick::pick))]
 fn is_below(c: Curve, i: usize, saving: u32) -> bool
     requires { i < 4 }
     ensures { result ≡ falls c i saving }
 {
-    if i == 0 {
-        return true;
-    }
-    let before = c.runs[i - 1];
-    saving < before.saving.0
+    i == 0 || saving < c.runs[i - 1].saving.0
 }
 
 // Run i of a curve.
-fn read_run(s: &[u8], i: usize, c: Curve, at: usize) -> CurveRead
+#[tactic(auto, unfolding(crate::specs::CurveFile::run_from, crate::specs::Parse::and_then, base::specs::Pick::pick))]
+fn read_run(s: &[u8], i: usize, c: Curve, at: usize) -> Answer<Read<Curve>>
     requires { i < 4 }
-    ensures { result ≡ curve_read (run_from s.now i c at) }
+    ensures { result ≡ run_from s.now i c at }
 {
-    match field(s, at, Curve::LENGTH_MIN, Curve::LENGTH_MAX) {
-        Read::Refused { why, place } => refused(why, place),
-        Read::Number {
-            value: length,
-            next: saving_at,
-        } => match field(s, saving_at, Curve::SAVING_MIN, Curve::SAVING_MAX) {
-            Read::Refused { why, place } => refused(why, place),
-            Read::Number {
-                value: saving,
-                next,
-            } => {
-                if !is_below(c, i, saving) {
-                    return refused(Why::SavingNotBelow, saving_at);
-                }
-                let mut more = c;
-                more.runs[i] = Run {
-                    length: Ticks(length),
-                    saving: Microwatts(saving),
-                };
-                CurveRead {
-                    answer: Answer::Done,
-                    next,
-                    curve: more,
-                }
-            }
-        },
+    let length = field(s, at, Curve::LENGTH_MIN, Curve::LENGTH_MAX)?;
+    let saving = field(s, length.next, Curve::SAVING_MIN, Curve::SAVING_MAX)?;
+    if !is_below(c, i, saving.value) {
+        return Err(Why::SavingNotBelow.at(length.next));
     }
+    let mut value = c;
+    value.runs[i] = Run {
+        length: Ticks(length.value),
+        saving: Microwatts(saving.value),
+    };
+    Ok(Read {
+        value,
+        next: saving.next,
+    })
 }
 
 // All runs of a curve.
-fn each_run(s: &[u8], c: Curve, at: usize) -> CurveRead
+#[tactic(auto, unfolding(crate::specs::Parse::repeat, crate::specs::Parse::and_then))]
+fn each_run(s: &[u8], c: Curve, at: usize) -> Answer<Read<Curve>>
     requires { c.count ≤ 4 }
-    ensures { result ≡ curve_read (repeat (run_from s.now) c at c.count) }
+    ensures { result ≡ repeat (run_from s.now) c at c.count }
 {
-    let count = c.count;
-    let mut so_far = c;
-    let mut next = at;
-    for i in 0..count {
-        let r = read_run(s, i, so_far, next);
-        let a = r.answer;
-        let Answer::Done = a else {
-            return r;
-        };
-        so_far = r.curve;
-        next = r.next;
+    let mut so_far = Read { value: c, next: at };
+    for i in 0..c.count {
+        so_far = read_run(s, i, so_far.value, so_far.next)?;
     }
-    CurveRead {
-        answer: Answer::Done,
-        next,
-        curve: so_far,
-    }
+    Ok(so_far)
 }
 
 // Run count and runs of a curve whose power, read at `from`, must be enough for all savings.
-fn read_runs(s: &[u8], fastest: u32, power: u32, from: usize, at: usize) -> CurveRead
-    ensures { result ≡ curve_read (runs_from s.now fastest power from at) }
+#[tactic(auto, unfolding(crate::specs::CurveFile::runs_from, crate::specs::Parse::and_then, base::specs::Pick::pick))]
+fn read_runs(s: &[u8], fastest: u32, power: u32, from: usize, at: usize) -> Answer<Read<Curve>>
+    ensures { result ≡ runs_from s.now fastest power from at }
 {
-    match field(s, at, 0, 4) {
-        Read::Refused { why, place } => refused(why, place),
-        Read::Number { value: count, next } => {
-            let r = each_run(
-                s,
-                bare_curve(Ticks(fastest), Microwatts(power), count as usize),
-                next,
-            );
-            let a = r.answer;
-            let Answer::Done = a else {
-                return r;
-            };
-            let c = r.curve;
-            if !c.affords_savings() {
-                return refused(Why::PowerBelowSavings, from);
-            }
-            r
-        }
+    let count = field(s, at, 0, 4)?;
+    let bare = bare_curve(Ticks(fastest), Microwatts(power), count.value as usize);
+    let read = each_run(s, bare, count.next)?;
+    if !read.value.affords_savings() {
+        return Err(Why::PowerBelowSavings.at(from));
     }
+    Ok(read)
 }
 
 // The curve that stands at a place; any place may be asked for.
-pub fn read_curve(s: &[u8], at: usize) -> CurveRead
-    ensures { result ≡ curve_read (curve_from s.now at) }
+#[tactic(auto, unfolding(crate::specs::CurveFile::curve_from, crate::specs::Parse::and_then))]
+pub fn read_curve(s: &[u8], at: usize) -> Answer<Read<Curve>>
+    ensures { result ≡ curve_from s.now at }
 {
-    match field(s, at, Curve::FASTEST_MIN, Curve::FASTEST_MAX) {
-        Read::Refused { why, place } => refused(why, place),
-        Read::Number {
-            value: fastest,
-            next: power_at,
-        } => match field(s, power_at, 0, Curve::POWER_MAX) {
-            Read::Refused { why, place } => refused(why, place),
-            Read::Number { value: power, next } => { read_runs(s, fastest, power, power_at, next) }
-        },
-    }
+    let fastest = field(s, at, Curve::FASTEST_MIN, Curve::FASTEST_MAX)?;
+    let power = field(s, fastest.next, 0, Curve::POWER_MAX)?;
+    read_runs(s, fastest.value, power.value, fastest.next, power.next)
 }
 
 // A number of the same form. What reaches the limit has none.
 fn narrow(n: usize) -> u32
     ensures { encode result ≡ encode n }
 {
-    if groups::LIMIT as usize <= n {
-        return groups::LIMIT;
-    }
-    n as u32
+    n.min(groups::LIMIT as usize) as u32
 }
 
 // The bytes of a number's form; 0 for a number that has none.

@@ -1,7 +1,7 @@
 -- What the loop keeps, and its measure.
 use mathlib.Core.Path.{◌≡◌}
 use lib.ListN.{length}
-use Prim.Native.Nat.{◌≤◌, ◌-◌}
+use Prim.Native.Nat.{◌≤◌}
 use Rattle.fields.specs.CurveFile.{runs_bytes}
 use Rattle.fields.specs.Writing.{WroteIfRoom}
 use Rattle.fields.proofs.write_runs.Given as goal
