@@ -21,12 +21,9 @@ blank_curves = replicate 64 blank_curve
 unfoldable pub empty_of : Ticks → ℕ → Board
 empty_of deadline parts = record { rule = A; deadline = deadline; parts = parts; curve = blank_curves; links = 0; link = blank_links }
 
--- "in ascending order of from, then to": 1 where a stands before x, else 0
-unfoldable pub below_of : Link → Link → ℕ
-below_of a x =
-    pick (ltb a.from x.from) 1 (
-    pick (ltb x.from a.from) 0 (
-    pick (ltb a.to x.to) 1 0))
+-- "in ascending order of from, then to": a stands before x
+unfoldable pub below_of : Link → Link → Bool
+below_of a x = pick (ltb a.from x.from) true (pick (ltb x.from a.from) false (ltb a.to x.to))
 
 -- link l, which is x, joins two parts, has no delay and stands above the one before it
 unfoldable pub link_held : ℕ → ℕ → Link → Link → Bool
@@ -35,7 +32,7 @@ link_held parts l before x =
     pick (leb parts x.to) false (
     pick (eqb x.from x.to) false (
     pick (ltb 0 x.delay.0) false (
-    pick (eqb l 0) true (eqb (below_of before x) 1)))))
+    pick (eqb l 0) true (below_of before x)))))
 
 unfoldable pub link_blank : Link → Bool
 link_blank x = pick (ltb 0 x.from) false (pick (ltb 0 x.to) false (eqb x.delay.0 0))

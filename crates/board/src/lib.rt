@@ -3,20 +3,21 @@
 
 ghost use Rattle.std.specs.Prelude.{◌≡◌, ◌<◌};
 ghost use Rattle.curve.specs.Tests.{both};
-ghost use Rattle.board.specs.Board.{plain_link, delay_of, blank_curve, rule_number, rule_of, usable_under, usable, WellFormed};
+ghost use Rattle.board.specs.Board.{plain_link, delay_of, blank_curve, rule_number, rule_named, usable_under, usable, WellFormed};
 ghost use Rattle.board.specs.Tests.{Decides, blank_curves, blank_links, empty_of, below_of, link_blank, link_held, link_good, links_test, curve_blank, curve_good, curves_test};
 
 use curve::{Curve, Microwatts, Ticks};
+use refusal::{Answer, Refusal, Why};
 
 // How many ticks of a deadline a path may take.
-#[derive(Clone, Copy)]
+#[derive(Clone, Copy, PartialEq, Eq)]
 pub enum Rule {
     A,
     B,
 }
 
 // A link leads from one part to another and takes ticks of its own.
-#[derive(Clone, Copy)]
+#[derive(Clone, Copy, PartialEq, Eq)]
 pub struct Link {
     pub from: usize,
     pub to: usize,
@@ -89,23 +90,30 @@ pub fn empty(deadline: Ticks, parts: usize) -> Board
 }
 
 // A rule's number: 0 for A, 1 for B.
-pub fn rule_number(rule: Rule) -> u32
-    ensures { result ≡ rule_number rule }
-{
-    match rule {
-        Rule::A => 0,
-        Rule::B => 1,
+impl From<Rule> for u32 {
+    ghost from_gives = { λ rule number. number ≡ rule_number rule };
+
+    fn from(rule: Rule) -> u32 {
+        match rule {
+            Rule::A => 0,
+            Rule::B => 1,
+        }
     }
 }
 
-// The rule that has a number; a number that is none gives B.
-pub fn rule_of(number: u32) -> Rule
-    ensures { result ≡ rule_of number }
-{
-    if number == 0 {
-        return Rule::A;
+// The rule that has a number, or refusal 22.
+impl TryFrom<u32> for Rule {
+    type Error = Refusal;
+
+    ghost try_from_gives = { λ number answer. answer ≡ rule_named number };
+
+    fn try_from(number: u32) -> Answer<Rule> {
+        match number {
+            0 => Ok(Rule::A),
+            1 => Ok(Rule::B),
+            _ => Err(Why::NoRule.at(0)),
+        }
     }
-    Rule::B
 }
 
 // The ticks of a deadline that a path may take.
@@ -126,20 +134,11 @@ pub fn usable_deadline(b: Board) -> Ticks
     usable_under(rule, b.deadline)
 }
 
-// 1 where link a stands before link x in the order of from, then to; else 0.
-pub fn below(a: Link, x: Link) -> usize
+// Whether link a stands before link x in the order of from, then to.
+pub fn below(a: Link, x: Link) -> bool
     ensures { result ≡ below_of a x }
 {
-    if a.from < x.from {
-        return 1;
-    }
-    if x.from < a.from {
-        return 0;
-    }
-    if a.to < x.to {
-        return 1;
-    }
-    0
+    (a.from, a.to) < (x.from, x.to)
 }
 
 // Two tests at once.
@@ -183,7 +182,7 @@ fn link_held(parts: usize, l: usize, before: Link, x: Link) -> bool
     if l == 0 {
         return true;
     }
-    below(before, x) == 1
+    below(before, x)
 }
 
 // Whether place l of the links, after `before`, holds what it should. A board would be copied for each place: two links will do.

@@ -1,6 +1,6 @@
 -- What the loop keeps, and its measure.
 use mathlib.Core.Path.{◌≡◌}
-use Prim.Native.Nat.{◌≤◌, ◌-◌}
+use Prim.Native.Nat.{◌≤◌}
 use Rattle.curve.specs.Tests.{every}
 use Rattle.board.specs.Tests.{curve_test}
 use Rattle.board.proofs.curves_good.Given as goal
