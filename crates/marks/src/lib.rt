@@ -1,7 +1,7 @@
 // A set of 64 marks, bit n for part n. A number of 64 or more is in no set, and putting it in changes nothing.
 #![tactic(auto)]
 
-ghost use Rattle.std.specs.Prelude.{◌≡◌};
+ghost use Rattle.std.specs.Prelude.{◌≡◌, ◌<◌, IfSome};
 ghost use Rattle.std.specs.Int.Count.{ones};
 ghost use Rattle.marks.specs.Marks.{has_of, union_of, without_of, one_of, insert_of, lowest_of};
 
@@ -50,9 +50,13 @@ pub fn size(set: u64) -> u32
     u64::count_ones(set)
 }
 
-// The lowest mark, or 64 where there is none.
-pub fn lowest(set: u64) -> usize
-    ensures { result ≡ lowest_of set }
+// The lowest mark, where there is one.
+pub fn lowest(set: u64) -> Option<usize>
+    ensures is { result ≡ lowest_of set }
+    ensures below { IfSome result (λ n. n < 64) }
 {
-    u64::trailing_zeros(set) as usize
+    if set == 0 {
+        return None;
+    }
+    Some(u64::trailing_zeros(set) as usize)
 }
