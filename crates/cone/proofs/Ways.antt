@@ -1,6 +1,7 @@
 -- The ways through the functions of this crate, in plain values.
 -- Assumes nothing.
 use Rattle.std.proofs.Common.{◌≡◌, ℕ, zero, suc, ◌+◌, ◌-◌, ◌<◌, ◌≤◌, min, Bool, true, false, List, get_or, set, replicate, sym, refl, ap, ◌∙◌, add-zero, add-suc, add-one, arith, le-ltb, lt-ltb}
+use Rattle.std.specs.Prelude.{Some, None}
 use Rattle.base.specs.Pick.{pick}
 use Rattle.base.proofs.Cases.{finished}
 use Rattle.marks.specs.Marks.{has_of, one_of, insert_of, union_of, without_of, lowest_of}
@@ -56,20 +57,20 @@ module _ (rows : List ℕ) (from : ℕ) where
   unfolding sweep_up_to
   sweep_none = refl
 
-  pub sweep_more : (s r : Sweep) (k p : ℕ) → s ≡ sweep_up_to rows from k → p < 64 → p ≡ lowest_of s.todo → r ≡ visited_of s p (get_or rows p 0) → r ≡ sweep_up_to rows from (k + 1)
-  unfolding sweep_up_to step_of pick
-  sweep_more s r k p is h ep er = rw (add-one, ← is, ← ep, lt-ltb p 64 h) er
+  pub sweep_more : (s r : Sweep) (k p : ℕ) → s ≡ sweep_up_to rows from k → Some p ≡ lowest_of s.todo → r ≡ visited_of s p (get_or rows p 0) → r ≡ sweep_up_to rows from (k + 1)
+  unfolding sweep_up_to step_of
+  sweep_more s r k p is ep er = rw (add-one, ← is, ← ep) er
 
   -- a sweep that has nothing to visit stays
-  sweep_stays : (k d : ℕ) → 64 ≤ lowest_of (sweep_up_to rows from k).todo → sweep_up_to rows from (k + d) ≡ sweep_up_to rows from k
-  unfolding sweep_up_to step_of pick
+  sweep_stays : (k d : ℕ) → lowest_of (sweep_up_to rows from k).todo ≡ None → sweep_up_to rows from (k + d) ≡ sweep_up_to rows from k
+  unfolding sweep_up_to step_of
   sweep_stays k zero h = rw add-zero
-  sweep_stays k (suc d) h = rw (add-suc, sweep_stays k d h, le-ltb _ 64 h)
+  sweep_stays k (suc d) h = rw (add-suc, sweep_stays k d h, h)
 
-  pub sweep_stopped : (s : Sweep) (k p : ℕ) → s ≡ sweep_up_to rows from k → k ≤ 64 → p ≡ lowest_of s.todo → 64 ≤ p → s.done ≡ reached_of rows from
+  pub sweep_stopped : (s : Sweep) (k : ℕ) → s ≡ sweep_up_to rows from k → k ≤ 64 → None ≡ lowest_of s.todo → s.done ≡ reached_of rows from
   unfolding reached_of
-  sweep_stopped s k p is h e stop =
-      let none : 64 ≤ lowest_of (sweep_up_to rows from k).todo = rw (← is, ← e) stop in
+  sweep_stopped s k is h e =
+      let none : lowest_of (sweep_up_to rows from k).todo ≡ None = rw (← is) (sym e) in
       let sum : k + (64 - k) ≡ 64 = omega arith in
       let all : sweep_up_to rows from 64 ≡ sweep_up_to rows from k = rw sum at (sweep_stays k (64 - k) none) in
       ap (λ (x : Sweep). x.done) (is ∙ sym all)

@@ -1,14 +1,12 @@
 -- The sets as they are computed, by rows of marks. `Cone.antt` says what they mean, and the laws in `proofs/` that they mean it.
 -- Assumes nothing.
-use Rattle.std.specs.Prelude.{ℕ, zero, suc, min, Bool, true, false, List, replicate, nat_lt, slice_index, slice_set}
+use Rattle.std.specs.Prelude.{ℕ, zero, suc, min, Bool, true, false, List, replicate, nat_lt, slice_index, slice_set, Option, Some, None}
 use Rattle.base.specs.Pick.{pick}
 use Rattle.marks.specs.Marks.{has_of, union_of, without_of, one_of, insert_of, lowest_of}
 use Rattle.board.specs.declared.Link.{Link}
 use Rattle.board.specs.declared.Board.{Board}
 use Rattle.board.specs.Board.{link_at}
 use Rattle.cone.specs.declared.Sweep.{Sweep}
-use Rattle.cone.specs.declared.Loop.{Loop}
-use Rattle.cone.specs.declared.Loop.TheVariants.{At, Free}
 
 -- ---- rows of marks: bit q of row p where a link leads from p to q; turned back, where one leads from q to p
 unfoldable pub no_rows : List ℕ
@@ -33,8 +31,12 @@ rows_of b back = rows_up_to b back (min b.links 256)
 unfoldable pub visited_of : Sweep → ℕ → ℕ → Sweep
 visited_of s p row = record { done = insert_of s.done p; todo = without_of (union_of s.todo row) (insert_of s.done p) }
 
+abbrev pub visited_next : List ℕ → Sweep → Option ℕ → Sweep
+visited_next rows s (Some p) = visited_of s p (slice_index rows p)
+visited_next rows s None = s
+
 unfoldable pub step_of : List ℕ → Sweep → Sweep
-step_of rows s = pick (nat_lt (lowest_of s.todo) 64) (visited_of s (lowest_of s.todo) (slice_index rows (lowest_of s.todo))) s
+step_of rows s = visited_next rows s (lowest_of s.todo)
 
 unfoldable pub sweep_up_to : List ℕ → ℕ → ℕ → Sweep
 sweep_up_to rows from zero = record { done = 0; todo = from }
@@ -58,13 +60,13 @@ unfoldable pub on_loop_of : List ℕ → ℕ → Bool
 on_loop_of rows p = has_of (reached_of rows (slice_index rows p)) p
 
 -- what was found, else what the next part gives
-abbrev pub found_else : Loop → Loop → Loop
-found_else (At p) next = At p
-found_else Free next = next
+abbrev pub found_else : Option ℕ → Option ℕ → Option ℕ
+found_else (Some p) next = Some p
+found_else None next = next
 
-unfoldable pub loop_up_to : List ℕ → ℕ → Loop
-loop_up_to rows zero = Free
-loop_up_to rows (suc k) = found_else (loop_up_to rows k) (pick (on_loop_of rows k) (At k) Free)
+unfoldable pub loop_up_to : List ℕ → ℕ → Option ℕ
+loop_up_to rows zero = None
+loop_up_to rows (suc k) = found_else (loop_up_to rows k) (pick (on_loop_of rows k) (Some k) None)
 
-unfoldable pub loop_of : Board → Loop
+unfoldable pub loop_of : Board → Option ℕ
 loop_of b = loop_up_to (rows_of b false) (min b.parts 64)

@@ -7,11 +7,11 @@ use Rattle.cone.proofs.reached.Goals as goal
 pub loop-k-init : goal.loop-k-init
 loop-k-init c = (search rules, search (sweep_none))
 
-pub returns-then-p-ge64 : goal.returns-then-p-ge64
-returns-then-p-ge64 c = search (sweep_stopped)
+pub returns-in_default : goal.returns-in_default
+returns-in_default c = search (sweep_stopped, c.in_default.ensures.is)
 
 pub loop-k-preserved : goal.loop-k-preserved
-loop-k-preserved c = (search rules, search (sweep_more))
+loop-k-preserved c = (search rules, search (sweep_more, c.in-Some.ensures.is))
 
 pub returns : goal.returns
 returns c = search (sweep_done)

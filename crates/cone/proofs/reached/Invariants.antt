@@ -1,5 +1,5 @@
 -- What the loop keeps, and its measure.
-use Rattle.std.proofs.Common.{◌≡◌, ◌-◌, ◌≤◌}
+use Rattle.std.proofs.Common.{◌≡◌, ◌≤◌}
 use Rattle.cone.specs.Sweeps.{sweep_up_to}
 use Rattle.cone.proofs.reached.Given as goal
 

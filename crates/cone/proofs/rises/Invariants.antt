@@ -1,5 +1,5 @@
 -- What the loop keeps, and its measure.
-use Rattle.std.proofs.Common.{◌-◌, ◌≤◌}
+use Rattle.std.proofs.Common.{◌≤◌}
 use Rattle.cone.specs.Ranks.{Rising}
 use Rattle.cone.proofs.rises.Given as goal
 

@@ -1,5 +1,5 @@
 -- What the loop keeps, and its measure.
-use Rattle.std.proofs.Common.{◌≡◌, ◌-◌, ◌≤◌}
+use Rattle.std.proofs.Common.{◌≡◌, ◌≤◌}
 use Rattle.cone.specs.Sweeps.{rows_up_to}
 use Rattle.cone.proofs.rows.Given as goal
 
