@@ -11,14 +11,14 @@ use lib.Dec.{eqb}
 use lib.ListN.{length, get_or, length-append}
 use borrow.Author.Tests.{eqb-true, eqb-false, ltb-false, eq-eqb, ne_eqb, le-ltb}
 use Rattle.base.specs.Pick.{pick}
-use Rattle.groups.specs.declared.Read.TheVariants.{Number}
 use Rattle.groups.specs.Number.{groups, number_at, encode}
 use Rattle.groups.proofs.RoundTrip.{Bytes}
 use Rattle.curve.specs.declared.Curve.{Curve}
 use Rattle.curve.specs.Curve.{Good}
-use Rattle.fields.specs.Parse.{got, and_then, number, field_at}
+use Rattle.groups.specs.Parse.{got}
+use Rattle.fields.specs.Parse.{and_then, field_at}
 use Rattle.fields.specs.CurveFile.{curve_bytes}
-use Rattle.fields.proofs.ParseLaws.{then_got, number_read, pick_passed, pick_not_stopped, got_same, field_got}
+use Rattle.fields.proofs.ParseLaws.{then_got, pick_passed, pick_not_stopped, read_same, got_same, field_got}
 use Rattle.fields.proofs.Stands.{Stands, stands_first, stands_then, stands_join, stands_front, stands_whole, number_reads, number_stands, field_reads_back, field_stands, field_next}
 use Rattle.fields.proofs.WritingLaws.{row_size}
 use Rattle.fields.proofs.CurveFileLaws.{curve_good, curve_next, curve_reads_back, curve_writes_back, curve_size_le, size_to_1, size_to_2}
@@ -34,16 +34,14 @@ use Rattle.design.specs.Design.{version_at, part_from, parts_from, above, link_f
 use Rattle.design.proofs.Rows.{RowRead, row_read, row_reads_back}
 
 -- ---- the version
-version_told : (s : List ℕ) (v n : ℕ) → version_at s ≡ got v n → (v ≡ 1) × (number_at s 0 ≡ Number 1 n)
+version_told : (s : List ℕ) (v n : ℕ) → version_at s ≡ got v n → (v ≡ 1) × (number_at s 0 ≡ got 1 n)
 unfolding version_at
 version_told s v n is =
-    let x = then_got (number (number_at s 0)) _ v n is in
-    let p = pick_passed _ _ _ _ v n x.rest in
-    let e = p.is in
+    let x = then_got (number_at s 0) _ v n is in
+    let p = pick_passed _ _ _ v n x.rest in
     let one : x.value ≡ 1 = eqb-true x.value 1 p.holds in
-    let value : x.value ≡ v = cc in
-    let place : x.place ≡ n = cc in
-    (sym value ∙ one, rw (one, place) at (number_read (number_at s 0) x.value x.place x.first))
+    let same = read_same x.value v x.place n p.is in
+    (sym same.0 ∙ one, rw (one, same.1) at x.first)
 
 version_reads_back : (s : List ℕ) (n : ℕ) → Stands s 0 (encode 1) n → version_at s ≡ got 1 n
 unfolding version_at and_then pick
@@ -120,7 +118,7 @@ unfolding link_from
 link_told s parts l before m link n some is =
     let f = then_got _ _ link n is in
     let t = then_got _ _ link n f.rest in
-    let p = pick_passed _ _ _ _ link n t.rest in
+    let p = pick_passed _ _ _ link n t.rest in
     got_same (LinkTold s parts l before m) (plain_link f.value t.value) link t.place n p.is
     (told_link s parts l before m f.value f.place t.value t.place some f.first t.first p.holds)
 
@@ -187,7 +185,7 @@ record DesignTold (rule : Rule) (s : List ℕ) (b : Board) (n : ℕ) : Type 0 wh
   at₂ : ℕ
   at₃ : ℕ
   at₄ : ℕ
-  version : number_at s 0 ≡ Number 1 at₀
+  version : number_at s 0 ≡ got 1 at₀
   ruled : b.rule ≡ rule
   deadline : field_at s 1 4095 at₀ ≡ got b.deadline.0 at₁
   parts : field_at s 1 64 at₁ ≡ got b.parts at₂
@@ -205,7 +203,7 @@ design_told rule s b n is =
     let c = then_got _ _ b n p.rest in
     let l = then_got _ _ b n c.rest in
     let r = then_got _ _ b n l.rest in
-    let w = pick_not_stopped _ _ _ _ b n r.rest in
+    let w = pick_not_stopped _ _ _ b n r.rest in
     let parts = field_got s 1 64 d.place p.value p.place p.first in
     let links = field_got s 0 256 c.place l.value l.place l.first in
     got_same (DesignTold rule s) (board_of (record { rule = rule; deadline = d.value; parts = p.value }) c.value l.value r.value) b r.place n w.1

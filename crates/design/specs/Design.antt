@@ -2,12 +2,13 @@
 -- link count; for each link from and to. Nothing follows." It is read in this order, and `and_then` has the first fault win; loops and slow
 -- paths (9 and 10) are found after all of it.
 -- Assumes nothing.
-use Rattle.std.specs.Prelude.{ℕ, ◌-◌, Bool, true, false, List, ◌++◌, ltb, eqb, length, get_or, set}
+use Rattle.std.specs.Prelude.{ℕ, ◌-◌, Bool, true, false, List, ◌++◌, ltb, eqb, length, get_or, set, Ok, Err}
 use Rattle.base.specs.Pick.{pick}
-use Rattle.refusal.specs.Refusal.{by}
+use Rattle.refusal.specs.Refusal.{Answer, refusal}
 use Rattle.curve.specs.declared.Curve.{Curve}
 use Rattle.groups.specs.Number.{number_at, encode}
-use Rattle.fields.specs.Parse.{Parse, got, stop, and_then, repeat, number, field_at}
+use Rattle.groups.specs.Parse.{Parse, got}
+use Rattle.fields.specs.Parse.{and_then, repeat, field_at}
 use Rattle.fields.specs.Writing.{in_row}
 use Rattle.fields.specs.CurveFile.{curve_from, curve_bytes}
 use Rattle.board.specs.declared.Rule.{Rule}
@@ -19,7 +20,7 @@ use Rattle.design.specs.declared.Head.{Head}
 
 -- "version not 1", place 0
 unfoldable pub version_at : List ℕ → Parse ℕ
-version_at s = and_then (number (number_at s 0)) (λ v next. pick (eqb v 1) (got v next) (stop (by 3) 0))
+version_at s = and_then (number_at s 0) (λ v next. pick (eqb v 1) (got v next) (refusal 3 0))
 
 -- what is read next is put in place i of a row
 unfoldable pub in_place : {A : Type 0} → (ℕ → List A → ℕ → Parse A) → ℕ → List A → ℕ → Parse (List A)
@@ -42,7 +43,7 @@ unfoldable pub link_from : List ℕ → ℕ → ℕ → Link → ℕ → Parse L
 link_from s parts l before at =
     and_then (field_at s 0 (parts - 1) at) (λ from at₁.
     and_then (field_at s 0 (parts - 1) at₁) (λ to at₂.
-    pick (above l before (plain_link from to)) (got (plain_link from to) at₂) (stop (by 7) at)))
+    pick (above l before (plain_link from to)) (got (plain_link from to) at₂) (refusal 7 at)))
 
 -- a link after those in the row before it
 abbrev pub link_in : List ℕ → ℕ → ℕ → List Link → ℕ → Parse Link
@@ -54,7 +55,7 @@ links_from s parts links at = repeat (in_place (link_in s parts)) blank_links at
 
 -- "bytes after the design", place: "first of them"
 unfoldable pub whole_at : List ℕ → Board → ℕ → Parse Board
-whole_at s b at = pick (ltb at (length s)) (stop (by 8) at) (got b at)
+whole_at s b at = pick (ltb at (length s)) (refusal 8 at) (got b at)
 
 abbrev pub board_of : Head → List Curve → ℕ → List Link → Board
 board_of head curve links link = record {
@@ -87,6 +88,11 @@ head_from s rule at =
 -- the board that a file describes under a rule, or the first of refusals 1 to 8 with its place
 unfoldable pub design_of : Rule → List ℕ → Parse Board
 design_of rule s = and_then (version_at s) (λ version at. head_from s rule at)
+
+-- what the reader hands back: the board, or the first fault
+abbrev pub design_read : Parse Board → Answer Board
+design_read (Ok r) = Ok r.value
+design_read (Err e) = Err e
 
 -- ---- the file of a board
 abbrev pub link_bytes : Link → List ℕ
