@@ -9,7 +9,7 @@ use Prim.Native.Nat.{ℕ, zero, suc, ◌+◌, ◌*◌, ◌-◌, ◌≤◌, ◌<�
 use native.Mathlib.Omega.{arith}
 use lib.Dec.{eqb}
 use lib.ListN.{length, get_or, length-append}
-use borrow.Author.Tests.{eqb-true, eqb-false, ltb-false, eq-eqb, ne_eqb, le-ltb}
+use borrow.Author.Tests.{eqb-true, eqb-false, ltb-false, ne_eqb, le-ltb}
 use Rattle.base.specs.Pick.{pick}
 use Rattle.groups.specs.Number.{groups, number_at, encode}
 use Rattle.groups.proofs.RoundTrip.{Bytes}
@@ -68,25 +68,25 @@ parts_read_back s at n b w x =
     n w.curve_room w.blank_curves x
 
 -- ---- links
-above_later : (l : ℕ) (before link : Link) (j : ℕ) → l ≡ suc j → pick (eqb l 0) true (eqb (below_of before link) 1) ≡ true → below_of before link ≡ 1
+above_later : (l : ℕ) (before link : Link) (j : ℕ) → l ≡ suc j → pick (eqb l 0) true (below_of before link) ≡ true → below_of before link ≡ true
 unfolding pick
 above_later l before link j same e =
     let later : eqb l 0 ≡ false = ne_eqb l 0 (λ z. omega arith) in
-    eqb-true (below_of before link) 1 (rw later at e)
+    rw later at e
 
 -- a link that passed the test is no self-link, and stands above the one before
-above_told : (l : ℕ) (before link : Link) → above l before link ≡ true → (link.from ≢ link.to) × ((j : ℕ) → l ≡ suc j → below_of before link ≡ 1)
+above_told : (l : ℕ) (before link : Link) → above l before link ≡ true → (link.from ≢ link.to) × ((j : ℕ) → l ≡ suc j → below_of before link ≡ true)
 unfolding above
 above_told l before link e =
-    let t = passed (eqb link.from link.to) (pick (eqb l 0) true (eqb (below_of before link) 1)) e in
+    let t = passed (eqb link.from link.to) (pick (eqb l 0) true (below_of before link)) e in
     (eqb-false link.from link.to t.0, λ j same. above_later l before link j same t.1)
 
-above_holds : (l : ℕ) (before link : Link) → link.from ≢ link.to → ((j : ℕ) → l ≡ suc j → below_of before link ≡ 1) → above l before link ≡ true
+above_holds : (l : ℕ) (before link : Link) → link.from ≢ link.to → ((j : ℕ) → l ≡ suc j → below_of before link ≡ true) → above l before link ≡ true
 unfolding above pick
 above_holds zero before link apart below = rw (ne_eqb link.from link.to apart)
 above_holds (suc l) before link apart below =
     let later : eqb (suc l) 0 ≡ false = ne_eqb (suc l) 0 (λ z. omega arith) in
-    rw (ne_eqb link.from link.to apart, later, eq-eqb (below_of before link) 1 (below l refl))
+    rw (ne_eqb link.from link.to apart, later, below l refl)
 
 pub record Joins (parts : ℕ) (link : Link) : Type 0 where
   pub from_in : link.from < parts
@@ -96,7 +96,7 @@ pub record Joins (parts : ℕ) (link : Link) : Type 0 where
 
 record LinkTold (s : List ℕ) (parts l : ℕ) (before : Link) (m : ℕ) (link : Link) (n : ℕ) : Type 0 where
   joins : Joins parts link
-  after : (j : ℕ) → l ≡ suc j → below_of before link ≡ 1
+  after : (j : ℕ) → l ≡ suc j → below_of before link ≡ true
   stands : Bytes s → Stands s m (link_bytes link) n
   within : n ≤ length s
 
@@ -148,7 +148,7 @@ ends_below : (before link : Link) → below_of before (plain_link link.from link
 unfolding below_of
 ends_below before link = refl
 
-link_reads_back : (s : List ℕ) (parts l : ℕ) (before : Link) (m : ℕ) (link : Link) (n : ℕ) → parts ≤ 64 → Joins parts link → ((j : ℕ) → l ≡ suc j → below_of before link ≡ 1) → Stands s m (link_bytes link) n → link_from s parts l before m ≡ got link n
+link_reads_back : (s : List ℕ) (parts l : ℕ) (before : Link) (m : ℕ) (link : Link) (n : ℕ) → parts ≤ 64 → Joins parts link → ((j : ℕ) → l ≡ suc j → below_of before link ≡ true) → Stands s m (link_bytes link) n → link_from s parts l before m ≡ got link n
 unfolding link_from delay_of and_then pick
 link_reads_back s parts l before m link n few joins below x =
     let f = encode link.from in

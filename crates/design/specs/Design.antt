@@ -36,7 +36,7 @@ parts_from s parts at = repeat (in_place (part_from s)) blank_curves at parts
 
 -- "self-link; in a file also link not above the one before", which link 0 does not have
 unfoldable pub above : ℕ → Link → Link → Bool
-above l before link = pick (eqb link.from link.to) false (pick (eqb l 0) true (eqb (below_of before link) 1))
+above l before link = pick (eqb link.from link.to) false (pick (eqb l 0) true (below_of before link))
 
 -- link l of a board of so many parts: "A link end must be below the part count, else 4"; "7 once both ends are read", at from's first byte
 unfoldable pub link_from : List ℕ → ℕ → ℕ → Link → ℕ → Parse Link

@@ -64,7 +64,7 @@ fn read_parts(s: &[u8], parts: usize, at: usize) -> Answer<Read<[Curve; 64]>>
 fn is_above(l: usize, before: Link, link: Link) -> bool
     ensures { result ≡ above l before link }
 {
-    link.from != link.to && (l == 0 || board::below(before, link) == 1)
+    link.from != link.to && (l == 0 || board::below(before, link))
 }
 
 // Link l, after the link before it.
