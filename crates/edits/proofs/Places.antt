@@ -33,9 +33,9 @@ module _ (b : Board) (w : WellFormed b) (x : Link) (small : x.to < 64) where
   pub place_parts : Parted (orders b) (order x) b.links (place_of b x)
   unfolding place_of count_before pick
   place_parts = rw (le-leb _ _ w.links_to)
-      (parted b.links (orders b) (λ l. below_of (link_at b l) x) (order x) w.ascends
-      (λ l h s. below_one (link_at b l) x (to_below b w l h) small s)
-      (λ l h s. below_none (link_at b l) x (to_below b w l h) small s)
+      (parted b.links (orders b) (λ l. pick (below_of (link_at b l) x) 1 0) (order x) w.ascends
+      (λ l h s. rw (below_one (link_at b l) x (to_below b w l h) small s))
+      (λ l h s. rw (below_none (link_at b l) x (to_below b w l h) small s))
       b.links (omega arith))
 
   -- a link with the order of x stands at its place

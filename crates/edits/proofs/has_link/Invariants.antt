@@ -1,7 +1,7 @@
 -- What the loop keeps, and its measure.
 use mathlib.Core.Path.{◌≡◌}
 use mathlib.Core.Bool.{false}
-use Prim.Native.Nat.{◌-◌, ◌≤◌}
+use Prim.Native.Nat.{◌≤◌}
 use Rattle.edits.specs.Edits.{some}
 use Rattle.edits.proofs.Ways.{ends_at}
 use Rattle.edits.proofs.has_link.Given as goal
