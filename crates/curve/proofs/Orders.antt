@@ -1,7 +1,7 @@
 -- What the derived orders of ticks and microwatts say of their numbers.
 -- Assumes nothing.
-use Rattle.std.proofs.Common.{◌≡◌, ℕ, ◌<◌, ◌≤◌, min, max, Bool, true, false, cond, sym, ◌∙◌, arith}
-use Rattle.std.specs.Ordering.{nat_cmp, is_lt, is_le, MatchOrdering}
+use Rattle.std.proofs.Common.{◌≡◌, ℕ, ◌<◌, ◌≤◌, min, max, Bool, true, false, cond, ap, sym, ◌∙◌, arith}
+use Rattle.std.specs.Ordering.{nat_cmp, is_lt, is_le, ord_max, ord_min, MatchOrdering}
 use Rattle.std.specs.declared.cmp.Ordering.{Ordering}
 use Rattle.std.specs.declared.cmp.Ordering.TheVariants.{Less, Equal, Greater}
 use Rattle.std.specs.Cmp.{ranks}
@@ -41,6 +41,10 @@ module _ (a b : ℕ) where
     pub lt_from_not_le : r ≡ is_le (nat_cmp a b) → r ≡ false → b < a
     lt_from_not_le is t = by_not_le (nat_cmp a b) (ranks a b) (sym is ∙ t)
 
+-- how the derived order compares them
+abbrev pub ticks_cmp : Ticks → Ticks → Ordering
+ticks_cmp a b = nat_cmp a.0 b.0
+
 -- the greater and the lesser of two counts of ticks
 module _ (a b : Ticks) where
   greater_by : (r : Ordering) → MatchOrdering r (b.0 < a.0) (b.0 ≡ a.0) (a.0 < b.0) → (cond (is_lt r) a b).0 ≡ max a.0 b.0
@@ -53,8 +57,10 @@ module _ (a b : Ticks) where
   lesser_by Equal h = omega arith
   lesser_by Greater h = omega arith
 
-  pub max_is : (cond (is_lt (nat_cmp b.0 a.0)) a b).0 ≡ max a.0 b.0
-  max_is = greater_by (nat_cmp b.0 a.0) (ranks b.0 a.0)
+  -- what `max` and `min` give
+  module _ (v : Ticks) where
+    pub max_of : v ≡ ord_max ticks_cmp a b → v.0 ≡ max a.0 b.0
+    max_of is = ap (λ (t : Ticks). t.0) is ∙ greater_by (nat_cmp b.0 a.0) (ranks b.0 a.0)
 
-  pub min_is : (cond (is_lt (nat_cmp b.0 a.0)) b a).0 ≡ min a.0 b.0
-  min_is = lesser_by (nat_cmp b.0 a.0) (ranks b.0 a.0)
+    pub min_of : v ≡ ord_min ticks_cmp a b → v.0 ≡ min a.0 b.0
+    min_of is = ap (λ (t : Ticks). t.0) is ∙ lesser_by (nat_cmp b.0 a.0) (ranks b.0 a.0)

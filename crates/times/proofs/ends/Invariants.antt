@@ -1,7 +1,7 @@
 -- What the loop keeps, and its measure.
 use Rattle.times.specs.Rounds.{ends_of}
 use mathlib.Core.Path.{◌≡◌}
-use Prim.Native.Nat.{◌≤◌, ◌-◌}
+use Prim.Native.Nat.{◌≤◌}
 use Rattle.times.proofs.ends.Given as goal
 
 abbrev pub invariant-loop-k : goal.invariant-loop-k

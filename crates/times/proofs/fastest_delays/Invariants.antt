@@ -1,5 +1,5 @@
 -- What the loop keeps, and its measure.
-use Prim.Native.Nat.{◌≤◌, ◌-◌}
+use Prim.Native.Nat.{◌≤◌}
 use mathlib.Core.Path.{◌≡◌}
 use Rattle.curve.specs.Rows.{ticks_row}
 use Rattle.board.specs.Board.{view}

@@ -1,6 +1,6 @@
 -- What the loop keeps, and its measure.
 use Rattle.times.proofs.Loops.{Alike}
-use Prim.Native.Nat.{◌≤◌, ◌-◌}
+use Prim.Native.Nat.{◌≤◌}
 use Rattle.times.proofs.same.Given as goal
 
 abbrev pub invariant-loop-k : goal.invariant-loop-k

@@ -3,7 +3,7 @@ use Rattle.times.specs.Times.{slowest_at}
 use Rattle.board.specs.Board.{WellFormed}
 use Rattle.curve.specs.Rows.{ticks_row}
 use mathlib.Core.Path.{◌≡◌}
-use Prim.Native.Nat.{◌≤◌, ◌-◌}
+use Prim.Native.Nat.{◌≤◌}
 use Rattle.times.proofs.slowest_delays.Given as goal
 
 abbrev pub invariant-loop-k : goal.invariant-loop-k
