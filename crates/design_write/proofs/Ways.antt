@@ -1,19 +1,19 @@
 -- The ways of the file's writer.
 -- Assumes nothing.
 use mathlib.Core.Path.{◌≡◌, refl, sym, ap, ◌∙◌}
-use mathlib.Core.Bool.{Bool, true, false, not}
+use mathlib.Core.Bool.{Bool, true, false}
 use mathlib.Core.List.{List, ◌++◌}
 use Prim.Native.Nat.{ℕ, ◌+◌, ◌≤◌, ◌<◌}
 use native.Mathlib.Omega.{arith}
 use lib.ListN.{length, drop, length-append}
 use lib.Seq.{sets-eq}
-use borrow.Author.Tests.{not-true, not-false, lt-ltb, le-ltb}
+use borrow.Author.Tests.{lt-ltb, le-ltb}
 use Rattle.base.specs.Pick.{pick}
 use Rattle.base.proofs.Cases.{finished}
-use Rattle.refusal.specs.declared.Why.{Why}
+use Rattle.std.specs.Prelude.{Ok, Err}
+use Rattle.refusal.specs.declared.Refusal.{Refusal}
 use Rattle.refusal.specs.declared.Why.TheVariants.{NoBoard, BufferShort}
-use Rattle.refusal.specs.declared.Answer.{Answer}
-use Rattle.refusal.specs.declared.Answer.TheVariants.{Done, Refused}
+use Rattle.refusal.specs.Refusal.{Answer, refusal_at}
 use Rattle.groups.specs.Number.{encode}
 use Rattle.fields.specs.Writing.{WroteIfRoom, WroteOrNothing, in_row}
 use Rattle.fields.proofs.WritingLaws.{then_wrote, both_wrote}
@@ -57,14 +57,14 @@ file_counted b one deadline parts curves links row is_one is-deadline is-parts i
 
 -- ---- `design_size`
 module _ (b : Board) (t : Bool) (test : Decides t (WellFormed b)) where
-  pub formed : not t ≡ false → WellFormed b
-  formed is = test.yes (not-false t is)
+  pub formed : t ≡ true → WellFormed b
+  formed is = test.yes is
 
-  pub counted : (r : ℕ) → not t ≡ false → r ≡ length (file_of b) → FileCounted b r
-  counted r is size = record { formed = λ w. size; none = λ no. absurd (no (test.yes (not-false t is))) }
+  pub counted : (r : ℕ) → t ≡ true → r ≡ length (file_of b) → FileCounted b r
+  counted r is size = record { formed = λ w. size; none = λ no. absurd (no (test.yes is)) }
 
-  pub uncounted : not t ≡ true → FileCounted b 0
-  uncounted is = record { formed = λ w. absurd (never t (test.no w) (not-true t is)); none = λ no. refl }
+  pub uncounted : t ≡ false → FileCounted b 0
+  uncounted is = record { formed = λ w. absurd (never t (test.no w) is); none = λ no. refl }
 
 -- ---- writers one after the other
 pub link_written :
@@ -81,28 +81,28 @@ head_written b buf at m buf₁ n buf₂ e buf₃ one two three =
     then_wrote buf at _ m buf₁ _ e buf₃ one (then_wrote buf₁ m _ n buf₂ _ e buf₃ two three)
 
 -- ---- `write_design`
-short_stays : (short : Bool) (buf full : List ℕ) (w why : Why) (q place : ℕ) → pick short (Refused w q) Done ≡ Refused why place → pick short buf full ≡ buf
+short_stays : (short : Bool) (buf full : List ℕ) (w e : Refusal) → pick {A = Answer Unit} short (Err w) (Ok tt) ≡ Err e → pick short buf full ≡ buf
 unfolding pick
-short_stays true buf full w why q place e = refl
-short_stays false buf full w why q place e = absurd (let z : ◌≡◌ {A = ℕ} 0 1 = cc in omega arith)
+short_stays true buf full w e is = refl
+short_stays false buf full w e is = absurd (let z : ◌≡◌ {A = ℕ} 0 1 = cc in omega arith)
 
-write_stays : (b : Board) (buf : List ℕ) (why : Why) (place : ℕ) → write_of b buf ≡ Refused why place → buffer_of b buf ≡ buf
+write_stays : (b : Board) (buf : List ℕ) (e : Refusal) → write_of b buf ≡ Err e → buffer_of b buf ≡ buf
 unfolding write_of buffer_of
-write_stays b buf why place e = short_stays _ buf _ _ why _ place e
+write_stays b buf e is = short_stays _ buf _ _ e is
 
-pub refused : (b : Board) (t : Bool) (buf : List ℕ) → Decides t (WellFormed b) → not t ≡ true → FileWritten b buf (Refused NoBoard 0) buf
-refused b t buf test is = record { formed = λ w. absurd (never t (test.no w) (not-true t is)); none = λ no. (refl, refl); stays = λ why place e. refl }
+pub refused : (b : Board) (t : Bool) (buf : List ℕ) (e : Refusal) → Decides t (WellFormed b) → t ≡ false → e ≡ refusal_at NoBoard 0 → FileWritten b buf (Err e) buf
+refused b t buf e test is fault = record { formed = λ w. absurd (never t (test.no w) is); none = λ no. (ap Err fault, refl); stays = λ e is. refl }
 
-module _ (b : Board) (t : Bool) (test : Decides t (WellFormed b)) (is_formed : not t ≡ false) (buf : List ℕ) (needed : ℕ) (is : needed ≡ length (file_of b)) where
-  for_formed : (r : Answer) (buf' : List ℕ) → r ≡ write_of b buf → buf' ≡ buffer_of b buf → FileWritten b buf r buf'
-  for_formed r buf' answer after = record { formed = λ w. (answer, after); none = λ no. absurd (no (test.yes (not-false t is_formed))); stays = λ why place e. after ∙ write_stays b buf why place (sym answer ∙ e) }
+module _ (b : Board) (t : Bool) (test : Decides t (WellFormed b)) (is_formed : t ≡ true) (buf : List ℕ) (needed : ℕ) (is : needed ≡ length (file_of b)) where
+  for_formed : (r : Answer Unit) (buf' : List ℕ) → r ≡ write_of b buf → buf' ≡ buffer_of b buf → FileWritten b buf r buf'
+  for_formed r buf' answer after = record { formed = λ w. (answer, after); none = λ no. absurd (no (test.yes is_formed)); stays = λ e is. after ∙ write_stays b buf e (sym answer ∙ is) }
 
-  pub too_short : length buf < needed → FileWritten b buf (Refused BufferShort needed) buf
+  pub too_short : (e : Refusal) → length buf < needed → e ≡ refusal_at BufferShort needed → FileWritten b buf (Err e) buf
   unfolding write_of buffer_of pick
-  too_short h = for_formed _ buf (rw (← is, lt-ltb (length buf) needed h)) (rw (← is, lt-ltb (length buf) needed h))
+  too_short e h fault = for_formed _ buf (rw (← is, lt-ltb (length buf) needed h) (ap Err fault)) (rw (← is, lt-ltb (length buf) needed h))
 
   module _ (h : needed ≤ length buf) where
-    done : Done ≡ write_of b buf
+    done : Ok tt ≡ write_of b buf
     unfolding write_of pick
     done = rw (← is, le-ltb (length buf) needed h)
 
@@ -120,5 +120,5 @@ module _ (b : Board) (t : Bool) (test : Decides t (WellFormed b)) (is_formed : n
           rw (← long, le-ltb (length buf) needed h)
           (all.holds ∙ sets-eq (encode 1 ++ head_bytes b) buf 0 file_room ∙ ap (λ (i : ℕ). (encode 1 ++ head_bytes b) ++ drop i buf) past)
 
-      pub file_written : FileWritten b buf Done buf₂
-      file_written = for_formed Done buf₂ done filled
+      pub file_written : FileWritten b buf (Ok tt) buf₂
+      file_written = for_formed (Ok tt) buf₂ done filled

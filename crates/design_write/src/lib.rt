@@ -125,19 +125,13 @@ pub fn write_design(b: Board, buf: &mut [u8]) -> Answer
     ensures { FileWritten b buf.old result buf.new }
 {
     if !board::well_formed(b) {
-        return Answer::Refused {
-            why: Why::NoBoard,
-            place: 0,
-        };
+        return Err(Why::NoBoard.at(0));
     }
     let needed = file_size(b);
     if buf.len() < needed {
-        return Answer::Refused {
-            why: Why::BufferShort,
-            place: needed,
-        };
+        return Err(Why::BufferShort.at(needed));
     }
     let next = fields::put(buf, 0, 1);
     write_head(buf, next, b);
-    Answer::Done
+    Ok(())
 }

@@ -1,6 +1,6 @@
 -- What the loop keeps, and its measure.
 use mathlib.Core.Path.{◌≡◌}
-use Prim.Native.Nat.{◌≤◌, ◌-◌, ◌*◌}
+use Prim.Native.Nat.{◌≤◌, ◌*◌}
 use lib.ListN.{length}
 use Rattle.groups.specs.Number.{groups}
 use Rattle.design.specs.Design.{links_bytes}
