@@ -5,16 +5,15 @@
 ghost use Rattle.std.specs.Prelude.{◌≡◌, ◌+◌, ◌≤◌};
 ghost use Rattle.budget.specs.Made.{no_budget, drawn_of, delays_of, powers_of, total_of, budget_of};
 
-use base::lesser;
 use board::Board;
-use curve::{Curve, Microwatts, Power, Ticks, no_powers, no_ticks};
+use curve::{Curve, Microwatts, Ticks, no_powers, no_ticks};
 
 // The power of all parts together, in microwatts.
-#[derive(Clone, Copy)]
+#[derive(Clone, Copy, PartialEq, Eq, PartialOrd, Ord)]
 pub struct Total(pub u64);
 
 // Places without a part hold 0.
-#[derive(Clone, Copy)]
+#[derive(Clone, Copy, PartialEq, Eq)]
 pub struct Budget {
     pub start: [Ticks; 64],
     pub delay: [Ticks; 64],
@@ -42,11 +41,7 @@ pub fn no_budget() -> Budget
 fn power_of(c: Curve, delay: Ticks) -> Microwatts
     ensures { result.0 ≡ drawn_of c delay.0 }
 {
-    let power = c.power_at(delay);
-    match power {
-        Power::At(p) => p,
-        Power::Refused { why: _, place: _ } => Microwatts(0),
-    }
+    c.power_at(delay).unwrap_or(Microwatts(0))
 }
 
 // A total with one part's power more.
@@ -73,7 +68,7 @@ fn delays(n: usize, start: [Ticks; 64], end: [Ticks; 64]) -> [Ticks; 64]
 fn powers(b: Board, delay: [Ticks; 64]) -> [Microwatts; 64]
     ensures { result ≡ powers_of b delay }
 {
-    let n = lesser(b.parts, 64);
+    let n = b.parts.min(64);
     let mut w = no_powers();
     for k in 0..n {
         let c = b.curve[k];
@@ -98,7 +93,7 @@ fn total_of(n: usize, power: [Microwatts; 64]) -> Total
 pub fn budget_of(b: Board, start: [Ticks; 64], end: [Ticks; 64]) -> Budget
     ensures { result ≡ budget_of b start end }
 {
-    let n = lesser(b.parts, 64);
+    let n = b.parts.min(64);
     let delay = delays(n, start, end);
     let power = powers(b, delay);
     let all = total_of(n, power);

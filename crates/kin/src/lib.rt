@@ -6,7 +6,6 @@ ghost use Rattle.kin.specs.Critical.{criticalb, critical_at, Critical, CriticalR
 ghost use Rattle.kin.specs.Kin.{KinOf};
 ghost use Rattle.kin.specs.Steps.{no_marks, no_rows_of, marked_of, with_link_of, joined_of, gathered_of, Led, Grown};
 
-use base::lesser;
 use board::{Board, Link};
 use budget::Budget;
 
@@ -48,7 +47,7 @@ fn critical(held: Budget, l: Link) -> bool
 pub fn link_is_critical(b: Board, held: Budget, l: usize) -> bool
     ensures { result ≡ critical_at b held l }
 {
-    let n = lesser(b.links, 256);
+    let n = b.links.min(256);
     if n <= l {
         return false;
     }
@@ -104,7 +103,7 @@ fn with_link(t: Rows, add: bool, l: Link) -> Rows
 fn critical_rows(b: Board, held: Budget) -> Rows
     ensures { CriticalRows b held result }
 {
-    let n = lesser(b.links, 256);
+    let n = b.links.min(256);
     let mut t = no_rows();
     for k in 0..n {
         let l = b.link[k];

@@ -101,10 +101,6 @@ module _ (link : List Link) (s e : List Ticks) where
   backs_done back k n h l is ok = finished (backs_of link s e) h l (is ok)
 
 -- ---- pushed, walk
-pub no_trail : (xs : List ℕ) → xs ≡ table 64 (λ p. 0) → record { count = 0; parts = xs } ≡ trail_of []
-unfolding trail_of table
-no_trail xs is = rw is
-
 module _ (back : List ℕ) (at : ℕ) where
   pub spent : (left : ℕ) (r : Trail) → r ≡ trail_of [] → left ≡ 0 → r ≡ walk_of left back at
   unfolding walk_of

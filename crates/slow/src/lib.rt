@@ -9,25 +9,48 @@ ghost use Rattle.times.specs.Rounds.{InPlaces};
 ghost use Rattle.slow.specs.Slow.{SlowOf};
 ghost use Rattle.slow.specs.Walk.{last_of, backs_of, pushed_of, walk_of, trail_of};
 
-use base::lesser;
 use board::{Board, Link, link_delay, usable_deadline};
 use curve::Ticks;
 use times::{fastest_delays, times_of};
 
-// Whether a path is too slow; then its ticks and its parts from first to last, the first `count` of `path`. The rest is 0.
-#[derive(Clone, Copy)]
-pub struct ShownPath {
-    pub slow: bool,
-    pub ticks: u32,
-    pub count: usize,
-    pub path: [usize; 64],
-}
-
-// Parts in the order of a path: the first `count` of `parts`.
-#[derive(Clone, Copy)]
+// Parts in the order of a path: the first `count` of `parts`. The rest is 0.
+#[derive(Clone, Copy, PartialEq, Eq)]
 pub struct Trail {
     pub count: usize,
     pub parts: [usize; 64],
+}
+
+// A path that is too slow at its fastest: its ticks, and its parts from first to last.
+#[derive(Clone, Copy, PartialEq, Eq)]
+pub struct ShownPath {
+    pub ticks: u32,
+    pub path: Trail,
+}
+
+impl Trail {
+    // No parts.
+    pub fn empty() -> Trail
+        ensures { result ≡ trail_of [] }
+    {
+        Trail {
+            count: 0,
+            parts: [0; 64],
+        }
+    }
+
+    // A part put behind the others, where there is room.
+    fn pushed(self, part: usize) -> Trail
+        ensures { result ≡ pushed_of self part }
+    {
+        let at = self.count;
+        if 64 <= at {
+            return self;
+        }
+        let mut next = self;
+        next.parts[at] = part;
+        next.count = at + 1;
+        next
+    }
 }
 
 fn all(value: usize) -> [usize; 64]
@@ -76,33 +99,9 @@ fn backs(link: [Link; 256], n: usize, s: [Ticks; 64], e: [Ticks; 64]) -> [usize;
         let l = link[k];
         let f = l.from % 64;
         let t = l.to % 64;
-        back[t] = lesser(back[t], awaited(f, e[f], link_delay(l), s[t]));
+        back[t] = back[t].min(awaited(f, e[f], link_delay(l), s[t]));
     }
     back
-}
-
-fn no_parts() -> Trail
-    ensures { result ≡ trail_of [] }
-{
-    let none = all(0);
-    Trail {
-        count: 0,
-        parts: none,
-    }
-}
-
-// A part put behind the others, where there is room.
-fn pushed(t: Trail, part: usize) -> Trail
-    ensures { result ≡ pushed_of t part }
-{
-    let at = t.count;
-    if 64 <= at {
-        return t;
-    }
-    let mut next = t;
-    next.parts[at] = part;
-    next.count = at + 1;
-    next
 }
 
 // The path to part `at`, back over the parts before it, with at most `left` parts left to visit; 64 is no part.
@@ -110,45 +109,29 @@ fn walk(back: [usize; 64], at: usize, left: usize) -> Trail
     ensures { result ≡ walk_of left back at }
 {
     if left == 0 {
-        return no_parts();
+        return Trail::empty();
     }
     if 64 <= at {
-        return no_parts();
+        return Trail::empty();
     }
     let before = walk(back, back[at], left - 1);
-    pushed(before, at)
+    before.pushed(at)
 }
 
-// Refusal 10: whether a path is too slow at its fastest, and which one is shown.
-pub fn slow_path(b: Board) -> ShownPath
+// Refusal 10: the path that is shown where one is too slow at its fastest.
+pub fn slow_path(b: Board) -> Option<ShownPath>
     ensures { Loopless b → SlowOf b result }
 {
-    let parts = lesser(b.parts, 64);
-    let d = fastest_delays(b);
-    let t = times_of(b, d);
+    let parts = b.parts.min(64);
+    let t = times_of(b, fastest_delays(b));
     let e = t.end;
     let last = last_part(e, parts);
     let ticks = e[last].0;
     let limit = usable_deadline(b);
     if ticks <= limit.0 {
-        let none = all(0);
-        return ShownPath {
-            slow: false,
-            ticks: 0,
-            count: 0,
-            path: none,
-        };
+        return None;
     }
-    let s = t.start;
-    let link = b.link;
-    let links = lesser(b.links, 256);
-    let back = backs(link, links, s, e);
-    let trail = walk(back, last, parts);
-    let path = trail.parts;
-    ShownPath {
-        slow: true,
-        ticks: ticks,
-        count: trail.count,
-        path: path,
-    }
+    let back = backs(b.link, b.links.min(256), t.start, e);
+    let path = walk(back, last, parts);
+    Some(ShownPath { ticks, path })
 }

@@ -1,5 +1,5 @@
 -- What the loop keeps, and its measure.
-use Prim.Native.Nat.{◌-◌, ◌≤◌}
+use Prim.Native.Nat.{◌≤◌}
 use mathlib.Core.Path.{◌≡◌}
 use Rattle.budget.specs.Made.{delays_of}
 use Rattle.budget.proofs.delays.Given as goal

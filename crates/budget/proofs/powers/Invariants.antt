@@ -1,5 +1,5 @@
 -- What the loop keeps, and its measure.
-use Prim.Native.Nat.{◌-◌, ◌≤◌}
+use Prim.Native.Nat.{◌≤◌}
 use Rattle.budget.proofs.Making.{Drawn}
 use Rattle.budget.proofs.powers.Given as goal
 

@@ -1,5 +1,5 @@
 -- What the loop keeps, and its measure.
-use Prim.Native.Nat.{◌-◌, ◌≤◌}
+use Prim.Native.Nat.{◌≤◌}
 use Rattle.budget.proofs.Making.{Summed}
 use Rattle.budget.proofs.total_of.Given as goal
 

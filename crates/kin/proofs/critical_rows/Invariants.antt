@@ -1,6 +1,6 @@
 -- What the loop keeps, and its measure.
 use mathlib.Core.Path.{◌≡◌}
-use Prim.Native.Nat.{◌-◌, ◌≤◌}
+use Prim.Native.Nat.{◌≤◌}
 use Rattle.kin.specs.Steps.{rows_up_to}
 use Rattle.kin.proofs.critical_rows.Given as goal
 

@@ -1,7 +1,7 @@
 -- What the loop keeps, and its measure.
 use Rattle.times.specs.Rounds.{InPlaces}
 use Rattle.slow.specs.Walk.{backs_of}
-use Prim.Native.Nat.{◌≤◌, ◌-◌}
+use Prim.Native.Nat.{◌≤◌}
 use mathlib.Core.Path.{◌≡◌}
 use Rattle.slow.proofs.backs.Given as goal
 

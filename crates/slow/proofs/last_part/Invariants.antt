@@ -1,6 +1,6 @@
 -- What the loop keeps, and its measure.
 use Rattle.slow.specs.Walk.{last_of}
-use Prim.Native.Nat.{◌≤◌, ◌-◌}
+use Prim.Native.Nat.{◌≤◌}
 use mathlib.Core.Path.{◌≡◌}
 use Rattle.slow.proofs.last_part.Given as goal
 

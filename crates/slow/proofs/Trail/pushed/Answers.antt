@@ -1,9 +1,9 @@
--- `slow::pushed` meets its contract.
+-- `slow::Trail::pushed` meets its contract.
 -- Assumes nothing.
 use Rattle.slow.specs.Walk.{pushed_of}
 use Rattle.base.proofs.Tests.{tests}
 use Rattle.base.specs.Pick.{pick}
-use Rattle.slow.proofs.pushed.Goals as goal
+use Rattle.slow.proofs.Trail.pushed.Goals as goal
 
 pub returns-then-at-ge64 : goal.returns-then-at-ge64
 unfolding pushed_of pick
