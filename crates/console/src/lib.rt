@@ -185,6 +185,16 @@ impl<W: Write> Out<W> {
     {
         self.put(b'\n');
     }
+
+    // Ends the line and writes it out.
+    pub fn print_line(&mut self)
+        ensures begun { self.new.at ≡ 0 }
+        ensures stays { Stays self.old self.new }
+        ensures goes_on { GoesOn W.contents self.old self.new (10 ∷ []) }
+    {
+        self.end_line();
+        self.flush();
+    }
 }
 
 #[cfg(test)]
