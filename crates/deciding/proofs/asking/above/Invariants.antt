@@ -1,7 +1,6 @@
--- What the loop keeps, and its measure.
+-- What the loop keeps.
 use Rattle.deciding.proofs.asking.Asking.{Counted}
-use Prim.Native.Nat.{◌≤◌, ◌-◌}
 use Rattle.deciding.proofs.asking.above.Given as goal
 
 abbrev pub invariant-loop-i : goal.invariant-loop-i
-invariant-loop-i l = (l.i ≤ 4) × Counted l.net l.a l.x l.i l.n
+invariant-loop-i l = Counted l.net l.a l.x l.i l.n
