@@ -111,7 +111,7 @@ module _ (old : List Link) (f : ℕ → Link) where
 
 module _ (old : List Link) (long : length old ≡ 256) (at : ℕ) where
   module _ (x : Link) where
-    inserted_at_lem : (k : ℕ) → k < 256 → get_or (inserted_of old at x) k no_link ≡ inserted_at old at x k
+    pub inserted_at_lem : (k : ℕ) → k < 256 → get_or (inserted_of old at x) k no_link ≡ inserted_at old at x k
     unfolding inserted_of
     inserted_at_lem k h = filled_at old (inserted_at old at x) 256 k (rw long (omega arith)) h
 
@@ -135,7 +135,7 @@ module _ (old : List Link) (long : length old ≡ 256) (at : ℕ) where
         let less : suc k - 1 ≡ k = omega arith in
         inserted_at_lem (suc k) h ∙ rw (le-ltb _ _ past, ne_eqb _ _ other, less)
 
-  removed_at_lem : (k : ℕ) → k < 256 → get_or (removed_of old at) k no_link ≡ removed_at old at k
+  pub removed_at_lem : (k : ℕ) → k < 256 → get_or (removed_of old at) k no_link ≡ removed_at old at k
   unfolding removed_of
   removed_at_lem k h = filled_at old (removed_at old at) 256 k (rw long (omega arith)) h
 
