@@ -18,6 +18,7 @@ use Rattle.curve.specs.Curve.{Good}
 use Rattle.groups.specs.Parse.{got}
 use Rattle.fields.specs.Parse.{and_then, field_at}
 use Rattle.fields.specs.CurveFile.{curve_bytes}
+use Rattle.fields.specs.LinkFile.{link_bytes}
 use Rattle.fields.proofs.ParseLaws.{then_got, pick_passed, pick_not_stopped, read_same, got_same, field_got}
 use Rattle.fields.proofs.Stands.{Stands, stands_first, stands_then, stands_join, stands_front, stands_whole, number_reads, number_stands, field_reads_back, field_stands, field_next}
 use Rattle.fields.proofs.WritingLaws.{row_size}
@@ -30,7 +31,7 @@ use Rattle.board.specs.Tests.{blank_curves, blank_links, below_of}
 use Rattle.board.proofs.LinkLaws.{passed, link_same, below_one, below_order}
 use Rattle.board.proofs.UsableLaws.{under_well}
 use Rattle.design.specs.declared.Head.{Head}
-use Rattle.design.specs.Design.{version_at, part_from, parts_from, above, link_from, link_in, links_from, whole_at, board_of, linked_from, body_from, head_from, design_of, link_bytes, parts_bytes, links_bytes, linked_bytes, body_bytes, head_bytes, file_of}
+use Rattle.design.specs.Design.{version_at, part_from, parts_from, above, link_from, link_in, links_from, whole_at, board_of, linked_from, body_from, head_from, design_of, parts_bytes, links_bytes, linked_bytes, body_bytes, head_bytes, file_of}
 use Rattle.design.proofs.Rows.{RowRead, row_read, row_reads_back}
 
 -- ---- the version

@@ -11,6 +11,7 @@ use Rattle.groups.specs.Parse.{Parse, got}
 use Rattle.fields.specs.Parse.{and_then, repeat, field_at}
 use Rattle.fields.specs.Writing.{in_row}
 use Rattle.fields.specs.CurveFile.{curve_from, curve_bytes}
+use Rattle.fields.specs.LinkFile.{link_bytes}
 use Rattle.board.specs.declared.Rule.{Rule}
 use Rattle.board.specs.declared.Link.{Link}
 use Rattle.board.specs.declared.Board.{Board}
@@ -95,9 +96,6 @@ design_read (Ok r) = Ok r.value
 design_read (Err e) = Err e
 
 -- ---- the file of a board
-abbrev pub link_bytes : Link → List ℕ
-link_bytes link = encode link.from ++ encode link.to
-
 unfoldable pub parts_bytes : Board → ℕ → List ℕ
 parts_bytes b k = in_row (λ p. curve_bytes (curve_at b p)) k
 

@@ -5,42 +5,46 @@ use mathlib.Core.Bool.{Bool, true, false}
 use mathlib.Core.List.{List, ◌++◌}
 use Prim.Native.Nat.{ℕ, ◌+◌, ◌≤◌, ◌<◌}
 use native.Mathlib.Omega.{arith}
-use lib.ListN.{length, drop, length-append}
+use lib.ListN.{length, take, drop, length-append}
 use lib.Seq.{sets-eq}
 use borrow.Author.Tests.{lt-ltb, le-ltb}
 use Rattle.base.specs.Pick.{pick}
-use Rattle.base.proofs.Cases.{finished}
-use Rattle.std.specs.Prelude.{Ok, Err}
+use Rattle.std.specs.List.{flat_map}
+use Rattle.std.specs.Prelude.{Some, None, Ok, Err}
 use Rattle.refusal.specs.declared.Refusal.{Refusal}
 use Rattle.refusal.specs.declared.Why.TheVariants.{NoBoard, BufferShort}
 use Rattle.refusal.specs.Refusal.{Answer, refusal_at}
 use Rattle.groups.specs.Number.{encode}
-use Rattle.fields.specs.Writing.{WroteIfRoom, WroteOrNothing, in_row}
-use Rattle.fields.proofs.WritingLaws.{then_wrote, both_wrote}
-use Rattle.board.specs.declared.Link.{Link}
+use Rattle.fields.specs.CurveFile.{curve_bytes}
+use Rattle.fields.specs.LinkFile.{link_bytes}
+use Rattle.fields.specs.Writing.{WroteIfRoom, WroteOrNothing}
+use Rattle.fields.proofs.WritingLaws.{then_wrote, room_more, row_is}
 use Rattle.board.specs.declared.Board.{Board}
-use Rattle.board.specs.Board.{WellFormed}
+use Rattle.board.specs.Board.{no_curve, no_link, WellFormed}
 use Rattle.board.specs.Tests.{Decides}
-use Rattle.design.specs.Design.{link_bytes, parts_bytes, links_bytes, linked_bytes, body_bytes, head_bytes, file_of}
+use Rattle.design.specs.Design.{parts_bytes, links_bytes, linked_bytes, body_bytes, head_bytes, file_of}
 use Rattle.design_write.specs.Write.{write_of, buffer_of, FileCounted, FileWritten}
 
 never : (t : Bool) → t ≡ true → t ≡ false → ⊥
 never t e f = let z : ◌≡◌ {A = ℕ} 0 1 = cc in omega arith
 
 -- ---- sizes
-pub link_counted : (link : Link) (f t : ℕ) → f ≡ length (encode link.from) → t ≡ length (encode link.to) → f + t ≡ length (link_bytes link)
-link_counted link f t from to = omega (arith, length-append (encode link.from) (encode link.to))
+-- the rows of a well-formed board
+pub curves_are : (b : Board) → WellFormed b → parts_bytes b b.parts ≡ flat_map curve_bytes (take b.parts b.curve)
+unfolding parts_bytes
+curves_are b w = row_is curve_bytes b.curve no_curve b.parts (omega (arith, w.parts_to, w.curve_room))
 
-pub row_counted_all : (bytes : ℕ → List ℕ) (i n size : ℕ) → size ≡ length (in_row bytes i) → i ≤ n → n ≤ i → size ≡ length (in_row bytes n)
-row_counted_all bytes i n size is l h = finished (λ (k : ℕ). length (in_row bytes k)) l h is
+pub links_are : (b : Board) → WellFormed b → links_bytes b b.links ≡ flat_map link_bytes (take b.links b.link)
+unfolding links_bytes
+links_are b w = row_is link_bytes b.link no_link b.links (omega (arith, w.links_to, w.link_room))
 
 pub file_counted :
-    (b : Board) (one deadline parts curves links row : ℕ) →
+    (b : Board) (one deadline parts curves links row : ℕ) → WellFormed b →
     one ≡ length (encode 1) → deadline ≡ length (encode b.deadline.0) → parts ≡ length (encode b.parts) →
-    curves ≡ length (parts_bytes b b.parts) → links ≡ length (encode b.links) → row ≡ length (links_bytes b b.links) →
+    curves ≡ length (flat_map curve_bytes (take b.parts b.curve)) → links ≡ length (encode b.links) → row ≡ length (flat_map link_bytes (take b.links b.link)) →
     one + deadline + parts + (curves + (links + row)) ≡ length (file_of b)
 unfolding file_of head_bytes body_bytes linked_bytes
-file_counted b one deadline parts curves links row is_one is-deadline is-parts is-curves is-links is_row =
+file_counted b one deadline parts curves links row w is_one is-deadline is-parts is-curves is-links is_row =
     let d = encode b.deadline.0 in
     let p = encode b.parts in
     let c = parts_bytes b b.parts in
@@ -53,6 +57,8 @@ file_counted b one deadline parts curves links row is_one is-deadline is-parts i
       length-append p (c ++ (l ++ r)),
       length-append c (l ++ r),
       length-append l r,
+      ap length (curves_are b w),
+      ap length (links_are b w),
     )
 
 -- ---- `design_size`
@@ -60,17 +66,24 @@ module _ (b : Board) (t : Bool) (test : Decides t (WellFormed b)) where
   pub formed : t ≡ true → WellFormed b
   formed is = test.yes is
 
-  pub counted : (r : ℕ) → t ≡ true → r ≡ length (file_of b) → FileCounted b r
-  counted r is size = record { formed = λ w. size; none = λ no. absurd (no (test.yes is)) }
+  pub counted : (r : ℕ) → t ≡ true → r ≡ length (file_of b) → FileCounted b (Some r)
+  counted r is size = record { formed = λ w. ap Some size; none = λ no. absurd (no (test.yes is)) }
 
-  pub uncounted : t ≡ false → FileCounted b 0
+  pub uncounted : t ≡ false → FileCounted b None
   uncounted is = record { formed = λ w. absurd (never t (test.no w) is); none = λ no. refl }
 
 -- ---- writers one after the other
-pub link_written :
-    (buf : List ℕ) (at : ℕ) (link : Link) (m : ℕ) (buf₁ : List ℕ) (n : ℕ) (buf₂ : List ℕ) →
-    WroteOrNothing buf at (encode link.from) m buf₁ → WroteOrNothing buf₁ m (encode link.to) n buf₂ → WroteIfRoom buf at (link_bytes link) n buf₂
-link_written buf at link m buf₁ n buf₂ one two = both_wrote buf at _ m buf₁ _ n buf₂ one two
+pub linked_written :
+    (b : Board) (buf : List ℕ) (at m : ℕ) (buf₁ : List ℕ) (n : ℕ) (buf₂ : List ℕ) → WellFormed b →
+    WroteOrNothing buf at (encode b.links) m buf₁ → WroteIfRoom buf₁ m (flat_map link_bytes (take b.links b.link)) n buf₂ → WroteIfRoom buf at (linked_bytes b) n buf₂
+unfolding linked_bytes
+linked_written b buf at m buf₁ n buf₂ w one two = rw (links_are b w) (then_wrote buf at _ m buf₁ _ n buf₂ one two)
+
+pub body_written :
+    (b : Board) (buf : List ℕ) (at m : ℕ) (buf₁ : List ℕ) (n : ℕ) (buf₂ : List ℕ) → WellFormed b →
+    WroteIfRoom buf at (flat_map curve_bytes (take b.parts b.curve)) m buf₁ → WroteIfRoom buf₁ m (linked_bytes b) n buf₂ → WroteIfRoom buf at (body_bytes b) n buf₂
+unfolding body_bytes
+body_written b buf at m buf₁ n buf₂ w one two = rw (curves_are b w) (room_more buf at _ m buf₁ _ n buf₂ one two)
 
 pub head_written :
     (b : Board) (buf : List ℕ) (at m : ℕ) (buf₁ : List ℕ) (n : ℕ) (buf₂ : List ℕ) (e : ℕ) (buf₃ : List ℕ) →

@@ -7,6 +7,7 @@ use Prim.Native.Nat.{ℕ, ◌≤◌}
 use lib.ListN.{length, take, drop}
 use lib.Seq.{take-append_seam}
 use borrow.Author.Tests.{le-ltb}
+use Rattle.std.specs.Prelude.{Option}
 use Rattle.base.specs.Pick.{pick}
 use Rattle.refusal.specs.Refusal.{Answer}
 use Rattle.groups.specs.Parse.{got}
@@ -27,7 +28,7 @@ module _ (b : Board) where
   either : {A : Type 0} → (WellFormed b → A) → ((WellFormed b → ⊥) → A) → A
   either formed none = ⊎_elim formed none (formed_or_not b)
 
-  pub one_count : (r r' : ℕ) → FileCounted b r → FileCounted b r' → r ≡ r'
+  pub one_count : (r r' : Option ℕ) → FileCounted b r → FileCounted b r' → r ≡ r'
   one_count r r' one two = either (λ w. one.formed w ∙ sym (two.formed w)) (λ no. one.none no ∙ sym (two.none no))
 
   pub one_write :

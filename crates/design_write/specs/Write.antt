@@ -1,6 +1,6 @@
 -- A board written to a buffer: "A write: 11, 16"; whether a board is held is asked above, and a value that is not well formed is none.
 -- Assumes nothing.
-use Rattle.std.specs.Prelude.{◌≡◌, ℕ, List, ◌++◌, ltb, length, drop, Ok, Err}
+use Rattle.std.specs.Prelude.{◌≡◌, ℕ, List, ◌++◌, ltb, length, drop, Option, Some, None, Ok, Err}
 use Rattle.base.specs.Pick.{pick}
 use Rattle.refusal.specs.declared.Refusal.{Refusal}
 use Rattle.refusal.specs.Refusal.{Answer, refusal}
@@ -17,9 +17,9 @@ unfoldable pub buffer_of : Board → List ℕ → List ℕ
 buffer_of b buf = pick (ltb (length buf) (length (file_of b))) buf (file_of b ++ drop (length (file_of b)) buf)
 
 -- what is promised of the count of bytes, for any value: those of the board's file, or none
-pub record FileCounted (b : Board) (r : ℕ) : Type 0 where
-  pub formed : WellFormed b → r ≡ length (file_of b)
-  pub none : (WellFormed b → ⊥) → r ≡ 0
+pub record FileCounted (b : Board) (r : Option ℕ) : Type 0 where
+  pub formed : WellFormed b → r ≡ Some (length (file_of b))
+  pub none : (WellFormed b → ⊥) → r ≡ None
 
 -- what is promised of a write, for any value: its answer, what the buffer then holds, and that a refusal leaves it as it was
 pub record FileWritten (b : Board) (buf : List ℕ) (r : Answer Unit) (buf' : List ℕ) : Type 0 where

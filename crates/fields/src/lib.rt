@@ -1,12 +1,15 @@
-// Numbers in their ranges, and a curve, as bytes: one reader and one writer for design files and for orders.
+// Numbers in their ranges, curves and links, as bytes: one reader and one writer for design files and for orders.
 #![tactic(auto)]
 
-ghost use Rattle.std.specs.Prelude.{◌≡◌, ◌*◌, ◌≤◌, ◌<◌, length};
+ghost use Rattle.std.specs.Prelude.{◌≡◌, ℕ, List, ◌++◌, ◌*◌, ◌≤◌, ◌<◌, length};
+ghost use Rattle.std.specs.List.{flat_map};
 ghost use Rattle.groups.specs.Number.{groups, encode};
 ghost use Rattle.fields.specs.Parse.{field_at, repeat};
-ghost use Rattle.fields.specs.CurveFile.{bare, falls, run_from, runs_from, curve_from, run_bytes, runs_bytes, curve_bytes};
+ghost use Rattle.fields.specs.CurveFile.{bare, falls, run_from, runs_from, curve_from, run_bytes, curve_bytes};
+ghost use Rattle.fields.specs.LinkFile.{link_bytes};
 ghost use Rattle.fields.specs.Writing.{WroteIfRoom, WroteOrNothing};
 
+use board::Link;
 use curve::{Curve, Microwatts, Run, Ticks};
 use groups::Read;
 use refusal::{Answer, Why};
@@ -128,22 +131,91 @@ pub fn put(buf: &mut [u8], at: usize, n: usize) -> usize
     groups::write_number(buf, at, narrow(n))
 }
 
-fn run_size(run: Run) -> usize
-    ensures { (result ≡ length (run_bytes run)) × (result ≤ 2 * groups) }
+// Writes two numbers in a row.
+pub fn put_pair(buf: &mut [u8], at: usize, first: usize, second: usize) -> usize
+    ensures { WroteIfRoom buf.old at (encode first ++ encode second) result buf.new }
 {
-    size(run.length.0 as usize) + size(run.saving.0 as usize)
+    let next = put(buf, at, first);
+    put(buf, next, second)
 }
 
-fn runs_size(c: Curve) -> usize
-    requires { c.count ≤ 4 }
-    ensures { (result ≡ length (runs_bytes c c.count)) × (result ≤ 8 * groups) }
+// What stands in a file in bytes of its own.
+pub trait Form {
+    ghost bytes: { Self → List ℕ };
+
+    // as many bytes as it can have
+    ghost most: { ℕ };
+
+    fn size(&self) -> usize
+        ensures { (result ≡ length (bytes self.now)) × (result ≤ most) };
+
+    fn write(&self, buf: &mut [u8], at: usize) -> usize
+        ensures { WroteIfRoom buf.old at (bytes self.now) result buf.new };
+}
+
+// Writes one at a place and hands back the place past it; without room it does nothing.
+pub fn write_in_room<T: Form>(buf: &mut [u8], at: usize, x: &T) -> usize
+    ensures { WroteOrNothing buf.old at (T.bytes x.now) result buf.new }
 {
-    let count = c.count;
-    let mut bytes: usize = 0;
-    for i in 0..count {
-        bytes = bytes + run_size(c.runs[i]);
+    let needed = x.size();
+    if buf.len() < needed {
+        return at;
+    }
+    if buf.len() - needed < at {
+        return at;
+    }
+    x.write(buf, at)
+}
+
+// The bytes of a row of them.
+pub fn row_size<T: Form>(row: &[T]) -> usize
+    requires { T.most * length row.now < 18446744073709551616 }
+    ensures { (result ≡ length (flat_map T.bytes row.now)) × (result ≤ T.most * length row.now) }
+{
+    let mut bytes = 0;
+    for x in row {
+        bytes += x.size();
     }
     bytes
+}
+
+// Writes a row of them, one after the other.
+pub fn write_row<T: Form>(buf: &mut [u8], at: usize, row: &[T]) -> usize
+    ensures { WroteIfRoom buf.old at (flat_map T.bytes row.now) result buf.new }
+{
+    let mut next = at;
+    for x in row {
+        next = x.write(buf, next);
+    }
+    next
+}
+
+impl Form for Run {
+    ghost bytes = { run_bytes };
+
+    ghost most = { 2 * groups };
+
+    fn size(&self) -> usize {
+        size(self.length.0 as usize) + size(self.saving.0 as usize)
+    }
+
+    fn write(&self, buf: &mut [u8], at: usize) -> usize {
+        put_pair(buf, at, self.length.0 as usize, self.saving.0 as usize)
+    }
+}
+
+impl Form for Link {
+    ghost bytes = { link_bytes };
+
+    ghost most = { 2 * groups };
+
+    fn size(&self) -> usize {
+        size(self.from) + size(self.to)
+    }
+
+    fn write(&self, buf: &mut [u8], at: usize) -> usize {
+        put_pair(buf, at, self.from, self.to)
+    }
 }
 
 // The bytes of a curve's form; 0 for a curve that has none.
@@ -154,26 +226,7 @@ pub fn curve_size(c: Curve) -> usize
         return 0;
     }
     let numbers = size(c.fastest.0 as usize) + size(c.power.0 as usize) + size(c.count);
-    numbers + runs_size(c)
-}
-
-fn write_run(buf: &mut [u8], at: usize, run: Run) -> usize
-    ensures { WroteIfRoom buf.old at (run_bytes run) result buf.new }
-{
-    let next = put(buf, at, run.length.0 as usize);
-    put(buf, next, run.saving.0 as usize)
-}
-
-fn write_runs(buf: &mut [u8], at: usize, c: Curve) -> usize
-    requires { c.count ≤ 4 }
-    ensures { WroteIfRoom buf.old at (runs_bytes c c.count) result buf.new }
-{
-    let count = c.count;
-    let mut next = at;
-    for i in 0..count {
-        next = write_run(buf, next, c.runs[i]);
-    }
-    next
+    numbers + row_size(&c.runs[..c.count])
 }
 
 // A curve that has a form.
@@ -184,22 +237,29 @@ fn write_form(buf: &mut [u8], at: usize, c: Curve) -> usize
     let power_at = put(buf, at, c.fastest.0 as usize);
     let count_at = put(buf, power_at, c.power.0 as usize);
     let runs_at = put(buf, count_at, c.count);
-    write_runs(buf, runs_at, c)
+    write_row(buf, runs_at, &c.runs[..c.count])
 }
 
 // Writes a curve's form at a place and hands back the place past it; without a form or without room it does nothing.
 pub fn write_curve(buf: &mut [u8], at: usize, c: Curve) -> usize
     ensures { WroteOrNothing buf.old at (curve_bytes c) result buf.new }
 {
-    if Curve::RUNS_MAX < c.count {
-        return at;
+    write_in_room(buf, at, &c)
+}
+
+impl Form for Curve {
+    ghost bytes = { curve_bytes };
+
+    ghost most = { 11 * groups };
+
+    fn size(&self) -> usize {
+        curve_size(*self)
     }
-    let needed = curve_size(c);
-    if buf.len() < needed {
-        return at;
+
+    fn write(&self, buf: &mut [u8], at: usize) -> usize {
+        if Curve::RUNS_MAX < self.count {
+            return at;
+        }
+        write_form(buf, at, *self)
     }
-    if buf.len() - needed < at {
-        return at;
-    }
-    write_form(buf, at, c)
 }

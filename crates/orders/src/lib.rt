@@ -1,13 +1,14 @@
 // An order as bytes: read alone, before it is tried, and written for tools and tests.
 #![tactic(auto)]
 
-ghost use Rattle.std.specs.Prelude.{◌≡◌, true, false, ◌++◌, length};
-ghost use Rattle.groups.specs.Number.{encode};
+ghost use Rattle.std.specs.Prelude.{◌≡◌, true, false, ◌++◌, ◌*◌, ◌≤◌, length};
+ghost use Rattle.groups.specs.Number.{groups, encode};
 ghost use Rattle.fields.specs.CurveFile.{curve_bytes};
 ghost use Rattle.fields.specs.Writing.{WroteIfRoom, WroteOrNothing};
 ghost use Rattle.orders.specs.Order.{link_order, deadline_from, link_from, new_curve_from, kind_from, order_of, order_bytes};
 
 use curve::{Curve, Ticks};
+use fields::Form;
 use groups::Read;
 use refusal::{Answer, Why};
 
@@ -79,16 +80,18 @@ fn read_new_curve(s: &[u8], at: usize) -> Answer<Read<Order>>
 }
 
 // What follows an order's kind.
+// Kept: (a) 01 names this form, single cases and a range of unknown ones.
 #[tactic(auto, using(base::proofs::Tests::tests), unfolding(crate::specs::Order::kind_from, base::specs::Pick::pick))]
 fn read_kind(s: &[u8], kind: u32, at: usize) -> Answer<Read<Order>>
     ensures { result ≡ kind_from s.now kind at }
 {
     match kind {
+        0 => Err(Why::UnknownKind.at(0)),
         1 => read_deadline(s, at),
         2 => read_link(s, at, true),
         3 => read_link(s, at, false),
         4 => read_new_curve(s, at),
-        _ => Err(Why::UnknownKind.at(0)),
+        5..=4294967295 => Err(Why::UnknownKind.at(0)),
     }
 }
 
@@ -102,7 +105,7 @@ pub fn read_order(s: &[u8]) -> Answer<Read<Order>>
 }
 
 fn link_size(kind: usize, from: usize, to: usize) -> usize
-    ensures { result ≡ length (encode kind ++ (encode from ++ encode to)) }
+    ensures { (result ≡ length (encode kind ++ (encode from ++ encode to))) × (result ≤ 3 * groups) }
 {
     fields::size(kind) + fields::size(from) + fields::size(to)
 }
@@ -110,7 +113,7 @@ fn link_size(kind: usize, from: usize, to: usize) -> usize
 // The bytes that an order takes; a number or a curve that has no form takes none.
 #[tactic(auto, using(crate::proofs::Writers::two_counted, crate::proofs::Writers::three_counted), unfolding(crate::specs::Order::order_bytes))]
 pub fn order_size(o: Order) -> usize
-    ensures { result ≡ length (order_bytes o) }
+    ensures { (result ≡ length (order_bytes o)) × (result ≤ 13 * groups) }
 {
     match o {
         Order::Deadline { deadline } => fields::size(1) + fields::size(deadline.0 as usize),
@@ -122,18 +125,11 @@ pub fn order_size(o: Order) -> usize
     }
 }
 
-fn write_two(buf: &mut [u8], at: usize, first: usize, second: usize) -> usize
-    ensures { WroteIfRoom buf.old at (encode first ++ encode second) result buf.new }
-{
-    let next = fields::put(buf, at, first);
-    fields::put(buf, next, second)
-}
-
 fn write_link(buf: &mut [u8], at: usize, kind: usize, from: usize, to: usize) -> usize
     ensures { WroteIfRoom buf.old at (encode kind ++ (encode from ++ encode to)) result buf.new }
 {
     let next = fields::put(buf, at, kind);
-    write_two(buf, next, from, to)
+    fields::put_pair(buf, next, from, to)
 }
 
 fn write_new_curve(buf: &mut [u8], at: usize, part: usize, c: Curve) -> usize
@@ -144,15 +140,23 @@ fn write_new_curve(buf: &mut [u8], at: usize, part: usize, c: Curve) -> usize
     fields::write_curve(buf, curve_at, c)
 }
 
-#[tactic(auto, unfolding(crate::specs::Order::order_bytes))]
-fn write_kind(buf: &mut [u8], at: usize, o: Order) -> usize
-    ensures { WroteIfRoom buf.old at (order_bytes o) result buf.new }
-{
-    match o {
-        Order::Deadline { deadline } => write_two(buf, at, 1, deadline.0 as usize),
-        Order::AddLink { from, to } => write_link(buf, at, 2, from, to),
-        Order::RemoveLink { from, to } => write_link(buf, at, 3, from, to),
-        Order::NewCurve { part, curve } => write_new_curve(buf, at, part, curve),
+impl Form for Order {
+    ghost bytes = { order_bytes };
+
+    ghost most = { 13 * groups };
+
+    fn size(&self) -> usize {
+        order_size(*self)
+    }
+
+    #[tactic(auto, unfolding(crate::specs::Order::order_bytes))]
+    fn write(&self, buf: &mut [u8], at: usize) -> usize {
+        match *self {
+            Order::Deadline { deadline } => fields::put_pair(buf, at, 1, deadline.0 as usize),
+            Order::AddLink { from, to } => write_link(buf, at, 2, from, to),
+            Order::RemoveLink { from, to } => write_link(buf, at, 3, from, to),
+            Order::NewCurve { part, curve } => write_new_curve(buf, at, part, curve),
+        }
     }
 }
 
@@ -160,12 +164,5 @@ fn write_kind(buf: &mut [u8], at: usize, o: Order) -> usize
 pub fn write_order(buf: &mut [u8], at: usize, o: Order) -> usize
     ensures { WroteOrNothing buf.old at (order_bytes o) result buf.new }
 {
-    let needed = order_size(o);
-    if buf.len() < needed {
-        return at;
-    }
-    if buf.len() - needed < at {
-        return at;
-    }
-    write_kind(buf, at, o)
+    fields::write_in_room(buf, at, &o)
 }
