@@ -1,11 +1,13 @@
--- What the derived orders of ticks and microwatts say of their numbers.
+-- What the derived tests and orders of ticks say of their numbers.
 -- Assumes nothing.
-use Rattle.std.proofs.Common.{◌≡◌, ℕ, ◌<◌, ◌≤◌, min, max, Bool, true, false, cond, ap, sym, ◌∙◌, arith}
+use Rattle.std.proofs.Common.{◌≡◌, ℕ, ◌<◌, ◌≤◌, min, max, Bool, true, false, cond, List, eqb, eqb-true, eq-eqb, ap, sym, ◌∙◌, arith}
 use Rattle.std.specs.Ordering.{nat_cmp, is_lt, is_le, ord_max, ord_min, MatchOrdering}
 use Rattle.std.specs.declared.cmp.Ordering.{Ordering}
 use Rattle.std.specs.declared.cmp.Ordering.TheVariants.{Less, Equal, Greater}
 use Rattle.std.specs.Cmp.{ranks}
+use lib.Pointwise.{pointwise, pointwise_decides}
 use Rattle.curve.specs.declared.Ticks.{Ticks}
+use Rattle.curve.proofs.RowLaws.{ticks}
 
 module _ (a b : ℕ) where
   by_less : (r : Ordering) → MatchOrdering r (a < b) (a ≡ b) (b < a) → is_lt r ≡ true → a < b
@@ -40,6 +42,16 @@ module _ (a b : ℕ) where
 
     pub lt_from_not_le : r ≡ is_le (nat_cmp a b) → r ≡ false → b < a
     lt_from_not_le is t = by_not_le (nat_cmp a b) (ranks a b) (sym is ∙ t)
+
+-- the derived test of two rows
+abbrev pub ticks_eq : Ticks → Ticks → Bool
+ticks_eq a b = eqb a.0 b.0
+
+ticks_decided : (a b : Ticks) → (ticks_eq a b ≡ true → a ≡ b) × (a ≡ b → ticks_eq a b ≡ true)
+ticks_decided a b = (λ e. ap ticks (eqb-true a.0 b.0 e), λ e. eq-eqb a.0 b.0 (ap (λ (t : Ticks). t.0) e))
+
+pub rows_same : (xs ys : List Ticks) (t : Bool) → t ≡ pointwise ticks_eq xs ys → t ≡ true → xs ≡ ys
+rows_same xs ys t is same = (pointwise_decides ticks_decided xs ys).0 (sym is ∙ same)
 
 -- how the derived order compares them
 abbrev pub ticks_cmp : Ticks → Ticks → Ordering

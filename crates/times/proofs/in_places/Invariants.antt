@@ -1,7 +1,6 @@
 -- What the loop keeps, and its measure.
 use Rattle.times.specs.Rounds.{InPlaces}
-use Prim.Native.Nat.{◌≤◌}
 use Rattle.times.proofs.in_places.Given as goal
 
-abbrev pub invariant-loop-k : goal.invariant-loop-k
-invariant-loop-k l = (l.k ≤ l.n) × InPlaces l.link l.k
+abbrev pub invariant-loop-l : goal.invariant-loop-l
+invariant-loop-l l = InPlaces l.link l.l-index
