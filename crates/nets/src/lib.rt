@@ -1,5 +1,5 @@
 // A network of arcs and the work on it: what advice, main loop and verdict share, and one arc as it is judged. The mathematics of networks stands in
-// specs and proofs; there is no code here.
+// specs and proofs; there is next to no code here.
 #![tactic(auto)]
 
 // The net: laid once, read by all. There is room for 448 arcs, for four runs to each of 64 of them, and for times of the 130 nodes, to begin with.
@@ -18,6 +18,23 @@ pub struct Net {
     pub due: u32,
 }
 
+impl Net {
+    // No arcs.
+    pub fn empty() -> Net {
+        Net {
+            tail: [0; 448],
+            head: [0; 448],
+            base: [0; 448],
+            length: [0; 256],
+            saving: [0; 256],
+            late: [0; 130],
+            arcs: 0,
+            parts: 0,
+            due: 0,
+        }
+    }
+}
+
 // The work: times of the nodes, loads of the arcs, and of each node's label the rank, the arc that it came along, and the room.
 #[derive(Drop)]
 pub struct Work {
@@ -26,6 +43,19 @@ pub struct Work {
     pub rank: [u32; 130],
     pub via: [u32; 130],
     pub room: [u32; 130],
+}
+
+impl Work {
+    // Room to work in.
+    pub fn empty() -> Work {
+        Work {
+            time: [0; 130],
+            load: [0; 448],
+            rank: [0; 130],
+            via: [0; 130],
+            room: [0; 130],
+        }
+    }
 }
 
 // All that net and work say of one arc, for the function that judges arcs: its ends, the rooms of the labels behind and ahead (0: no label), its ticks

@@ -17,10 +17,12 @@ use Rattle.budget.specs.Budget.{Holds}
 use Rattle.budget.specs.Made.{value_of}
 use Rattle.budget.specs.Reason.{Reason, loads_of}
 use Rattle.budget.proofs.BudgetLaws.{value_alike, value_holds}
-use Rattle.nets.specs.Net.{Net}
+use Rattle.nets.specs.Network.{Network}
 use Rattle.nets.specs.Flow.{Sheet, First}
 use Rattle.nets.specs.Wired.{Wired, times_of}
-use Rattle.nets.specs.Sheet.{net_in, time_in, load_in}
+use Rattle.nets.specs.declared.Net.{Net}
+use Rattle.nets.specs.declared.Work.{Work}
+use Rattle.nets.specs.Sheet.{net_in}
 use Rattle.nets.proofs.Bridge.{balanced_conserves}
 use Rattle.nets.proofs.Nodes.{first_held, first_slack}
 use Rattle.nets.proofs.Steps.{first_agrees, sheet_agrees}
@@ -70,14 +72,14 @@ module _ (b : Board) (q : Bool) (d : Decides q (WellFormed b)) where
   is_formed on = d.yes (not-false q on)
 
 -- ---- a board that can be solved
-pub so_prepared : (b : Board) → Solvable b → (due : ℕ) → due ≡ usable b → (net : List ℕ) → NetworkIn b net → Prepared b net due
+pub so_prepared : (b : Board) → Solvable b → (due : ℕ) → due ≡ usable b → (net : Net) → NetworkIn b net → Prepared b net due
 so_prepared b can due e net n = record { can = can; network = n; due_is = e }
 
-pub so_answers : (b : Board) (due : ℕ) → due ≡ usable b → (net w : List ℕ) → Found b due net w → Answers b w
+pub so_answers : (b : Board) (due : ℕ) → due ≡ usable b → (net : Net) (w : Work) → Found b due net w → Answers b w
 so_answers b due e net w f = record { net = net; found = rw e at f }
 
 -- loads and their first times
-module _ (b : Board) (can : Solvable b) (N : Net) (w : Wired (view b) N) (t x : List ℕ) (f : First N (usable b) (cells x) (cells t))
+module _ (b : Board) (can : Solvable b) (N : Network) (w : Wired (view b) N) (t x : List ℕ) (f : First N (usable b) (cells x) (cells t))
     (s : Sheet N.arcs N.tail N.head (cells x)) where
   abbrev τ : Times
   τ = times_of (view b) (cells t)
@@ -105,22 +107,22 @@ module _ (b : Board) (can : Solvable b) (N : Net) (w : Wired (view b) N) (t x : 
       })
 
 -- ---- `answer_of`
-module _ (b : Board) (w : List ℕ) (ans : Answers b w) where
+module _ (b : Board) (w : Work) (ans : Answers b w) where
   abbrev can : Solvable b
   can = ans.found.prepared.can
 
-  abbrev M : Net
+  abbrev M : Network
   M = net_in ans.net
 
   wired : Wired (view b) M
   wired = ans.found.prepared.network.wired
 
-  sheet : Sheet M.arcs M.tail M.head (cells (load_in w))
+  sheet : Sheet M.arcs M.tail M.head (cells w.load)
   unfolding SheetIn
   sheet = ans.found.proves.sheet
 
-  pub answers_settled : Budgeted b (time_in w)
-  answers_settled = first_settled b can M wired (time_in w) (load_in w) ans.found.proves.first sheet
+  pub answers_settled : Budgeted b w.time
+  answers_settled = first_settled b can M wired w.time w.load ans.found.proves.first sheet
 
   pub loads_fit_2 : Fits w64 (b.parts + b.links)
   loads_fit_2 = omega (arith, can.formed.parts_to, can.formed.links_to)
@@ -134,21 +136,21 @@ module _ (b : Board) (w : List ℕ) (ans : Answers b w) where
   pub loads_few : b.parts + b.links + b.parts + b.parts ≤ 448
   loads_few = omega (arith, can.formed.parts_to, can.formed.links_to)
 
-  module _ (r : Budget) (flow : List ℕ) (e : r ≡ value_of b (times_of (view b) (cells (time_in w))))
-      (read : FlowIn w (b.parts + b.links + b.parts + b.parts) flow) where
-    same_load : (a : ℕ) → a < M.arcs → cells flow a ≡ cells (load_in w) a
+  module _ (r : Budget) (flow : List ℕ) (e : r ≡ value_of b (times_of (view b) (cells w.time)))
+      (read : FlowIn w.load (b.parts + b.links + b.parts + b.parts) flow) where
+    same_load : (a : ℕ) → a < M.arcs → cells flow a ≡ cells w.load a
     unfolding view
     same_load a h = read.loads a (omega (arith, wired.arcs))
 
-    flow_first : First M (usable b) (cells flow) (cells (time_in w))
-    flow_first = first_agrees M (usable b) (cells (load_in w)) (cells flow) same_load (cells (time_in w)) ans.found.proves.first
+    flow_first : First M (usable b) (cells flow) (cells w.time)
+    flow_first = first_agrees M (usable b) (cells w.load) (cells flow) same_load (cells w.time) ans.found.proves.first
 
     flow_sheet : Sheet M.arcs M.tail M.head (cells flow)
-    flow_sheet = sheet_agrees M (cells (load_in w)) (cells flow) same_load sheet
+    flow_sheet = sheet_agrees M (cells w.load) (cells flow) same_load sheet
 
     pub answers_solves : Sound b (record { budget = r; flow = flow })
     answers_solves = record {
       verdict = solvable_fine b can;
-      holds = first_holds b can M wired (time_in w) flow flow_first flow_sheet r e;
-      reason = first_reason b can M wired (time_in w) flow flow_first flow_sheet r e (λ a h. read.past a (omega arith));
+      holds = first_holds b can M wired w.time flow flow_first flow_sheet r e;
+      reason = first_reason b can M wired w.time flow flow_first flow_sheet r e (λ a h. read.past a (omega arith));
     }

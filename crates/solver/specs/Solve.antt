@@ -2,7 +2,7 @@
 -- The idea (documents 000 and 003): loads that conserve, and times that are slack with them, prove the times cheapest; the first times that are slack
 -- with them are the budget held. The subtle point: there may be many such flows, and no statement says which one is given.
 -- Assumes nothing.
-use Rattle.std.specs.Prelude.{ℕ, ◌<◌, ◌≤◌, List, [], replicate, Result, Ok, Err}
+use Rattle.std.specs.Prelude.{ℕ, ◌<◌, ◌≤◌, List, [], Result, Ok, Err}
 use Rattle.theory.specs.Graph.{Ranked}
 use Rattle.theory.specs.Budget.{Timed}
 use Rattle.board.specs.declared.Board.{Board}
@@ -16,10 +16,6 @@ use Rattle.solver.specs.Verdict.{Verdict}
 use Rattle.solver.specs.Judging.{Turned}
 
 -- ---- what is promised
--- no load on any part, link, entry or exit
-unfoldable pub no_loads : List ℕ
-no_loads = replicate 448 0
-
 -- a board that is refused for nothing: the budget that is held, and its reason
 pub record Sound (b : Board) (s : Solved) : Type 0 where
   pub verdict : Verdict b (Ok tt) []

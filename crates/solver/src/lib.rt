@@ -20,6 +20,7 @@ ghost use Rattle.solver.specs.Finding.{Answers};
 
 use board::Board;
 use budget::Budget;
+use nets::Work;
 use refusal::{Refusal, Why};
 use slow::Trail;
 
@@ -61,10 +62,9 @@ pub struct Advice {
 
 // Nothing known.
 pub fn no_advice() -> Advice {
-    let times = [0u32; 130];
     Advice {
-        loads: reading::no_loads(),
-        times,
+        loads: [0; 448],
+        times: [0; 130],
         ready: false,
     }
 }
@@ -76,13 +76,14 @@ pub fn advice_from(from: Board, held: Budget, flow: [u32; 448], to: Board) -> Ad
 
 // ---- a board that can be solved
 // The budget and the flow that stand on the work sheet.
-fn answer_of(b: Board, work: &[u32; 968]) -> Solved
+fn answer_of(b: Board, work: &Work) -> Solved
     requires { Answers b work.now }
     ensures { Sound b result }
 {
-    let budget = reading::budget_at(b, work);
-    let flow = reading::flow_of(work, b.parts + b.links + b.parts + b.parts);
-    Solved { budget, flow }
+    Solved {
+        budget: reading::budget_at(b, &work.time),
+        flow: reading::flow_of(&work.load, b.parts + b.links + b.parts + b.parts),
+    }
 }
 
 // The budget that is held, with its reason, on a board that is refused for nothing.
@@ -91,9 +92,8 @@ fn solve_possible(b: Board, advice: Advice) -> Solved
     ensures { Sound b result }
 {
     let due = board::usable_deadline(b);
-    let mut net = [0u32; 2048];
-    let mut work = [0u32; 968];
-    wiring::wire(b, due.0, &mut net);
+    let mut net = wiring::wire(b, due.0);
+    let mut work = Work::empty();
     finding::find(b, due.0, advice, &mut net, &mut work);
     answer_of(b, &work)
 }
