@@ -2,7 +2,7 @@
 -- link count; for each link from and to. Nothing follows." It is read in this order, and `and_then` has the first fault win; loops and slow
 -- paths (9 and 10) are found after all of it.
 -- Assumes nothing.
-use Rattle.std.specs.Prelude.{ℕ, ◌-◌, Bool, true, false, List, ◌++◌, ltb, eqb, length, get_or, set, Ok, Err}
+use Rattle.std.specs.Prelude.{ℕ, zero, suc, ◌-◌, Bool, true, false, List, ◌++◌, ltb, eqb, length, get_or, set, Option, Some, None, Ok, Err}
 use Rattle.base.specs.Pick.{pick}
 use Rattle.refusal.specs.Refusal.{Answer, refusal}
 use Rattle.curve.specs.declared.Curve.{Curve}
@@ -35,20 +35,30 @@ part_from s p before at = curve_from s at
 unfoldable pub parts_from : List ℕ → ℕ → ℕ → Parse (List Curve)
 parts_from s parts at = repeat (in_place (part_from s)) blank_curves at parts
 
--- "self-link; in a file also link not above the one before", which link 0 does not have
-unfoldable pub above : ℕ → Link → Link → Bool
-above l before link = pick (eqb link.from link.to) false (pick (eqb l 0) true (below_of before link))
+-- above the one before; the first link has none before it
+abbrev pub past : Option Link → Link → Bool
+past None link = true
+past (Some before) link = below_of before link
 
--- link l of a board of so many parts: "A link end must be below the part count, else 4"; "7 once both ends are read", at from's first byte
-unfoldable pub link_from : List ℕ → ℕ → ℕ → Link → ℕ → Parse Link
-link_from s parts l before at =
+-- "self-link; in a file also link not above the one before"
+unfoldable pub above : Option Link → Link → Bool
+above before link = pick (eqb link.from link.to) false (past before link)
+
+-- a link of a board of so many parts: "A link end must be below the part count, else 4"; "7 once both ends are read", at from's first byte
+unfoldable pub link_from : List ℕ → ℕ → Option Link → ℕ → Parse Link
+link_from s parts before at =
     and_then (field_at s 0 (parts - 1) at) (λ from at₁.
     and_then (field_at s 0 (parts - 1) at₁) (λ to at₂.
-    pick (above l before (plain_link from to)) (got (plain_link from to) at₂) (refusal 7 at)))
+    pick (above before (plain_link from to)) (got (plain_link from to) at₂) (refusal 7 at)))
+
+-- the link before place l of a row
+abbrev pub before_of : ℕ → List Link → Option Link
+before_of zero row = None
+before_of (suc l) row = Some (get_or row l no_link)
 
 -- a link after those in the row before it
 abbrev pub link_in : List ℕ → ℕ → ℕ → List Link → ℕ → Parse Link
-link_in s parts l row at = link_from s parts l (get_or row (l - 1) no_link) at
+link_in s parts l row at = link_from s parts (before_of l row) at
 
 -- so many links
 unfoldable pub links_from : List ℕ → ℕ → ℕ → ℕ → Parse (List Link)

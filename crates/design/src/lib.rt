@@ -59,25 +59,31 @@ fn read_parts(s: &[u8], parts: usize, at: usize) -> Answer<Read<[Curve; 64]>>
     Ok(Read { value: curve, next })
 }
 
-// Whether link l leads from one part to another and stands above the link before it.
+// Whether a link leads from one part to another and stands above the link before it.
 #[tactic(auto, using(base::proofs::Tests::tests), unfolding(crate::specs::Design::above, base::specs::Pick::pick))]
-fn is_above(l: usize, before: Link, link: Link) -> bool
-    ensures { result ≡ above l before link }
+fn is_above(before: Option<Link>, link: Link) -> bool
+    ensures { result ≡ above before link }
 {
-    link.from != link.to && (l == 0 || board::below(before, link))
+    if link.from == link.to {
+        return false;
+    }
+    match before {
+        None => true,
+        Some(before) => board::below(before, link),
+    }
 }
 
-// Link l, after the link before it.
+// A link, after the link before it.
 #[tactic(auto, unfolding(crate::specs::Design::link_from, fields::specs::Parse::and_then, base::specs::Pick::pick))]
-fn read_link(s: &[u8], parts: usize, l: usize, before: Link, at: usize) -> Answer<Read<Link>>
+fn read_link(s: &[u8], parts: usize, before: Option<Link>, at: usize) -> Answer<Read<Link>>
     requires { (1 ≤ parts) × (parts ≤ 64) }
-    ensures { result ≡ link_from s.now parts l before at }
+    ensures { result ≡ link_from s.now parts before at }
 {
     let last = (parts - 1) as u32;
     let from = fields::field(s, at, 0, last)?;
     let to = fields::field(s, from.next, 0, last)?;
     let link = board::plain_link(from.value as usize, to.value as usize);
-    if !is_above(l, before, link) {
+    if !is_above(before, link) {
         return Err(Why::LinkNotAbove.at(at));
     }
     Ok(Read {
@@ -92,12 +98,12 @@ fn read_links(s: &[u8], parts: usize, links: usize, at: usize) -> Answer<Read<[L
     ensures { result ≡ links_from s.now parts links at }
 {
     let mut link = no_links();
-    let mut before = board::plain_link(0, 0);
+    let mut before = None;
     let mut next = at;
     for l in 0..links {
-        let read = read_link(s, parts, l, before, next)?;
-        before = read.value;
-        link[l] = before;
+        let read = read_link(s, parts, before, next)?;
+        before = Some(read.value);
+        link[l] = read.value;
         next = read.next;
     }
     Ok(Read { value: link, next })

@@ -23,17 +23,15 @@ pub struct Read<T> {
 fn seven_bits(g: u8) -> u32
     ensures { (result ≡ g % 128) × (result < 128) }
 {
-    (g % 128) as u32
+    u32::from(g % 128)
 }
 
 // Whether a number that begins at `first` may end in the group g at `at`: a group of zero only where it is the first.
+#[tactic(auto, using(base::proofs::Tests::tests), unfolding(crate::specs::Number::shortest_end, base::specs::Pick::pick))]
 fn shortest_end(first: usize, at: usize, g: u8) -> bool
     ensures { result ≡ shortest_end first at g }
 {
-    if at == first {
-        return true;
-    }
-    0 < g
+    at == first || 0 < g
 }
 
 // The number that begins at a place of s; any place may be asked for.
@@ -65,6 +63,7 @@ pub fn read_number(s: &[u8], at: usize) -> Answer<Read<u32>>
 }
 
 // The bytes of a number's form; 0 for a number that has none.
+// Kept: (d) 0 is the length of no bytes, and it is added to other lengths: `fields::size(a) + fields::size(b)`.
 pub fn size(n: u32) -> usize
     ensures { result ≡ length (encode n) }
 {
@@ -74,8 +73,8 @@ pub fn size(n: u32) -> usize
     let mut above = n;
     let mut count: usize = 0;
     while 128 <= above {
-        above = above / 128;
-        count = count + 1;
+        above /= 128;
+        count += 1;
     }
     count + 1
 }
@@ -106,8 +105,8 @@ fn put(buf: &mut [u8], at: usize, n: u32) -> usize
     let mut next = at;
     while 128 <= rest {
         buf[next] = (rest % 128 + 128) as u8;
-        rest = rest / 128;
-        next = next + 1;
+        rest /= 128;
+        next += 1;
     }
     buf[next] = rest as u8;
     next + 1

@@ -1,6 +1,7 @@
-use mathlib.Core.Path.{◌≡◌, sym, ◌∙◌}
-use Prim.Native.Nat.{◌+◌, ◌-◌}
+use mathlib.Core.Path.{refl, sym, ap, ◌∙◌}
 use native.Mathlib.Omega.{arith}
+use native.Mathlib.Numerals.{add-one}
+use Rattle.std.specs.Prelude.{Some}
 use lib.ListN.{length-set}
 use lib.Seq.{get_or-set_same}
 use borrow.Author.Rules.{rules}
@@ -13,7 +14,7 @@ use Rattle.design.proofs.read_links.Goals as goal
 
 pub loop-l-init : goal.loop-l-init
 unfolding repeat blank_links
-loop-l-init c = (rw c.no_links-link.ensures, rw (c.no_links-link.ensures, c.plain_link-before.ensures), rw c.no_links-link.ensures)
+loop-l-init c = (rw c.no_links-link.ensures, refl, rw c.no_links-link.ensures)
 
 pub returns-in_err-read : goal.returns-in_err-read
 unfolding links_from
@@ -25,10 +26,9 @@ returns-in_err-read c =
 pub loop-l-preserved : goal.loop-l-preserved
 loop-l-preserved c =
     let reads = rw c.loop-l.invariant.1 at c.in_ok-read.ensures in
-    let long = c.loop-l.invariant.2 in
-    let back : c.loop-l.l + 1 - 1 ≡ c.loop-l.l = omega arith in (
+    let long = c.loop-l.invariant.2 in (
       row_on (link_in c.args.s.now c.args.parts) blank_links c.args.at c.loop-l.l _ _ c.loop-l.invariant.0 _ _ (sym reads),
-      rw back (sym (get_or-set_same c.loop-l.link c.loop-l.l c.in_ok-read.read.value no_link (omega arith))),
+      rw add-one (ap Some (sym (get_or-set_same c.loop-l.link c.loop-l.l c.in_ok-read.read.value no_link (omega arith)))),
       length-set c.loop-l.link c.loop-l.l c.in_ok-read.read.value ∙ long,
     )
 
