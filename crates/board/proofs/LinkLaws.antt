@@ -2,7 +2,7 @@
 -- Assumes nothing.
 use mathlib.Core.Path.{◌≡◌, refl, sym, ◌∙◌}
 use mathlib.Core.Logic.{⊎_elim, ◌≢◌}
-use mathlib.Core.Bool.{Bool, true, false}
+use mathlib.Core.Bool.{Bool, true, false, ◌&&◌}
 use Prim.Native.Nat.{ℕ, zero, suc, ◌-◌, ◌≤◌, ◌<◌}
 use native.Mathlib.Omega.{arith}
 use lib.Dec.{eqb}
@@ -14,7 +14,7 @@ use Rattle.curve.proofs.GoodLaws.{every_at, every_all}
 use Rattle.board.specs.declared.Link.{Link}
 use Rattle.board.specs.declared.Board.{Board}
 use Rattle.board.specs.Board.{WellFormed, link_at, no_link, delay_of, order}
-use Rattle.board.specs.Tests.{below_of, link_held, link_blank, link_good, link_test, links_test}
+use Rattle.board.specs.Tests.{below_of, link_held, same_link, link_good, link_test, links_test}
 
 -- ---- tests
 pub clash : {A : Type 0} → false ≡ true → A
@@ -79,12 +79,16 @@ held_passed b l e =
       above = s.1;
     }
 
-pub blank_passed : (x : Link) → link_blank x ≡ true → x ≡ no_link
-unfolding link_blank
+-- the derived test of two links
+pub and_true : (t u : Bool) → (t && u) ≡ true → (t ≡ true) × (u ≡ true)
+and_true true u e = (refl, e)
+and_true false u e = clash e
+
+pub blank_passed : (x : Link) → same_link x no_link ≡ true → x ≡ no_link
 blank_passed x e =
-    let p = passed _ _ e in
-    let q = passed _ _ p.1 in
-    link_same x no_link (omega (arith, ltb-false 0 x.from p.0)) (omega (arith, ltb-false 0 x.to q.0)) (eqb-true _ _ q.1)
+    let p = and_true _ _ e in
+    let q = and_true _ _ p.1 in
+    link_same x no_link (eqb-true _ _ p.0) (eqb-true _ _ q.0) (eqb-true _ _ q.1)
 
 later : (l : ℕ) → eqb (suc l) 0 ≡ false
 later l = ne_eqb (suc l) 0 (λ e. omega arith)
@@ -119,7 +123,7 @@ module _ (b : Board) (w : WellFormed b) where
       rw (lt-leb _ _ (w.from_in s h), lt-leb _ _ (w.to_in s h), ne_eqb _ _ (w.apart s h), w.plain s h, later l, one_less l, one)
 
   link_passes : (l : ℕ) → l < 256 → link_test b l ≡ true
-  unfolding link_test link_good link_blank pick
+  unfolding link_test link_good pick
   link_passes l r = ⊎_elim (λ (h : l < b.links). rw (lt-ltb _ _ h) (held_passes l h)) (λ (h : b.links ≤ l). rw (le-ltb _ _ h, w.blank_links l h r)) (lt_or_le l b.links)
 
   pub links_pass : links_test b ≡ true

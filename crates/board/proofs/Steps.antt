@@ -1,13 +1,12 @@
 -- The ways through the functions, and a test of every numbers below n.
 -- Assumes nothing.
-use mathlib.Core.Path.{◌≡◌, refl, sym, ap, ◌∙◌}
+use mathlib.Core.Path.{◌≡◌, sym, ap, ◌∙◌}
 use mathlib.Core.List.{List, map}
-use mathlib.Core.Bool.{Bool, true, false}
+use mathlib.Core.Bool.{Bool, true, false, not}
 use Prim.Native.Nat.{ℕ, ◌+◌, ◌-◌, ◌/◌, ◌≤◌, ◌<◌}
-use native.Mathlib.Numerals.{add-one}
 use native.Mathlib.Omega.{arith}
 use lib.ListN.{length, get_or, replicate, length-map}
-use borrow.Author.Tests.{lt-leb, lt-ltb, le-ltb, eq-eqb, ne_eqb}
+use borrow.Author.Tests.{lt-leb, lt-ltb, le-ltb, eq-eqb, ne_eqb, not-true}
 use Rattle.std.specs.Prelude.{Ok, Err, Some, ltb}
 use Rattle.std.specs.Ordering.{nat_cmp, partial_lt, partial_ordering_then, MatchOrdering}
 use Rattle.std.specs.declared.cmp.Ordering.{Ordering}
@@ -19,7 +18,8 @@ use Rattle.refusal.specs.declared.Refusal.{Refusal}
 use Rattle.refusal.specs.declared.Why.TheVariants.{NoRule}
 use Rattle.base.proofs.Cases.{finished}
 use Rattle.curve.specs.Answers.{flat_of}
-use Rattle.curve.specs.Tests.{both, every}
+use Rattle.curve.specs.Tests.{every}
+use Rattle.curve.proofs.GoodLaws.{every_more, every_fails}
 use Rattle.curve.specs.declared.Ticks.{Ticks}
 use Rattle.curve.specs.declared.Curve.{Curve}
 use Rattle.board.specs.declared.Rule.{Rule}
@@ -27,32 +27,39 @@ use Rattle.board.specs.declared.Rule.TheVariants.{A, B}
 use Rattle.board.specs.declared.Link.{Link}
 use Rattle.board.specs.declared.Board.{Board}
 use Rattle.board.specs.Board.{plain_link, no_link, blank_curve, link_at, curve_at, rule_number, rule_named, usable_under, usable}
-use Rattle.board.specs.Tests.{blank_curves, blank_links, empty_of, below_of, link_held, link_good, link_test, curve_good, curve_test}
+use Rattle.board.specs.Tests.{blank_curves, blank_links, empty_of, below_of, link_held, link_good, link_test, links_test, curve_good, curve_test, curves_test}
 
-pub none_tested : (test : ℕ → Bool) → true ≡ every 0 test
-unfolding every
-none_tested test = refl
+-- ---- one curve more, one link more: each place passed so far
+module _ (b : Board) (k : ℕ) (t : Bool) where
+  module _ (new : t ≡ curve_good b.parts k (curve_at b k)) where
+    pub one_curve : every k (curve_test b) ≡ true → not t ≡ false → every (k + 1) (curve_test b) ≡ true
+    unfolding curve_test
+    one_curve is passes = every_more (curve_test b) k t is new passes
 
-one_more : (test : ℕ → Bool) (k : ℕ) (good one next : Bool) → good ≡ every k test → one ≡ test k → next ≡ both good one → next ≡ every (k + 1) test
-unfolding every
-one_more test k good one next is new so = rw (add-one, ← is, ← new) so
+    pub curve_fails : k < 64 → not t ≡ true → false ≡ curves_test b
+    unfolding curves_test curve_test
+    curve_fails h fails = sym (every_fails (curve_test b) 64 k h (sym new ∙ not-true t fails))
 
--- one curve more, one link more
-module _ (b : Board) (k : ℕ) (good one next : Bool) where
-  pub one_curve : good ≡ every k (curve_test b) → one ≡ curve_good b.parts k (curve_at b k) → next ≡ both good one → next ≡ every (k + 1) (curve_test b)
-  unfolding curve_test
-  one_curve = one_more (curve_test b) k good one next
+  module _ (before : Link) (at : before ≡ link_at b (k - 1)) (new : t ≡ link_good b.parts b.links k before (link_at b k)) where
+    pub one_link : every k (link_test b) ≡ true → not t ≡ false → every (k + 1) (link_test b) ≡ true
+    unfolding link_test
+    one_link is passes = every_more (link_test b) k t is (rw at at new) passes
 
-  pub one_link : (before : Link) → good ≡ every k (link_test b) → before ≡ link_at b (k - 1) →
-      one ≡ link_good b.parts b.links k before (link_at b k) → next ≡ both good one → next ≡ every (k + 1) (link_test b)
-  unfolding link_test
-  one_link before is at new = one_more (link_test b) k good one next is (rw at at new)
+    pub link_fails : k < 256 → not t ≡ true → false ≡ links_test b
+    unfolding links_test link_test
+    link_fails h fails = sym (every_fails (link_test b) 256 k h (sym (rw at at new) ∙ not-true t fails))
+
+module _ (b : Board) (k : ℕ) where
+  pub all_curves : k ≤ 64 → 64 ≤ k → every k (curve_test b) ≡ true → true ≡ curves_test b
+  unfolding curves_test
+  all_curves l h is = finished (λ m. every m (curve_test b)) l h (sym is)
+
+  pub all_links : k ≤ 256 → 256 ≤ k → every k (link_test b) ≡ true → true ≡ links_test b
+  unfolding links_test
+  all_links l h is = finished (λ m. every m (link_test b)) l h (sym is)
 
 pub link_before : (links : List Link) (k : ℕ) → get_or links k no_link ≡ get_or links (k + 1 - 1) no_link
 link_before links k = let one : k ≡ k + 1 - 1 = omega arith in ap (λ (l : ℕ). get_or links l no_link) one
-
-pub all_tested : (test : ℕ → Bool) (k n : ℕ) (good : Bool) → good ≡ every k test → k ≤ n → n ≤ k → good ≡ every n test
-all_tested test k n good is l h = finished (λ m. every m test) l h is
 
 pub no_link_lem : (x : Link) → x ≡ plain_link 0 0 → replicate 256 x ≡ blank_links
 unfolding blank_links

@@ -2,9 +2,8 @@
 #![tactic(auto)]
 
 ghost use Rattle.std.specs.Prelude.{◌≡◌, ◌<◌};
-ghost use Rattle.curve.specs.Tests.{both};
 ghost use Rattle.board.specs.Board.{plain_link, delay_of, blank_curve, rule_number, rule_named, usable_under, usable, WellFormed};
-ghost use Rattle.board.specs.Tests.{Decides, blank_curves, blank_links, empty_of, below_of, link_blank, link_held, link_good, links_test, curve_blank, curve_good, curves_test};
+ghost use Rattle.board.specs.Tests.{Decides, blank_curves, blank_links, empty_of, below_of, link_held, link_good, links_test, curve_good, curves_test};
 
 use curve::{Curve, Microwatts, Ticks};
 use refusal::{Answer, Refusal, Why};
@@ -141,28 +140,6 @@ pub fn below(a: Link, x: Link) -> bool
     (a.from, a.to) < (x.from, x.to)
 }
 
-// Two tests at once.
-fn both_hold(one: bool, other: bool) -> bool
-    ensures { result ≡ both one other }
-{
-    if one {
-        return other;
-    }
-    false
-}
-
-fn link_blank(l: Link) -> bool
-    ensures { result ≡ link_blank l }
-{
-    if 0 < l.from {
-        return false;
-    }
-    if 0 < l.to {
-        return false;
-    }
-    l.delay.0 == 0
-}
-
 // Whether link l, which is x, joins two of the parts, has no delay and stands above the one before it.
 fn link_held(parts: usize, l: usize, before: Link, x: Link) -> bool
     ensures { result ≡ link_held parts l before x }
@@ -185,49 +162,29 @@ fn link_held(parts: usize, l: usize, before: Link, x: Link) -> bool
     below(before, x)
 }
 
-// Whether place l of the links, after `before`, holds what it should. A board would be copied for each place: two links will do.
+// Whether place l of the links, after `before`, holds what it should.
 fn link_good(parts: usize, links: usize, l: usize, before: Link, x: Link) -> bool
     ensures { result ≡ link_good parts links l before x }
 {
     if l < links {
         return link_held(parts, l, before, x);
     }
-    link_blank(x)
+    x == plain_link(0, 0)
 }
 
 // Whether every place of the links does.
-fn links_good(b: Board) -> bool
-    ensures { result ≡ links_test b }
+fn links_good(b: &Board) -> bool
+    ensures { result ≡ links_test b.now }
 {
-    let parts = b.parts;
-    let links = b.links;
     let mut before = b.link[0];
-    let mut good = true;
     for l in 0..256 {
         let x = b.link[l];
-        good = both_hold(good, link_good(parts, links, l, before, x));
+        if !link_good(b.parts, b.links, l, before, x) {
+            return false;
+        }
         before = x;
     }
-    good
-}
-
-// Whether this is what a place without a part holds. With no runs, a curve of a fastest delay is good exactly when all its places are blank.
-fn curve_blank(c: Curve) -> bool
-    ensures { result ≡ curve_blank c }
-{
-    if 0 < c.fastest.0 {
-        return false;
-    }
-    if 0 < c.power.0 {
-        return false;
-    }
-    if 0 < c.count {
-        return false;
-    }
-    let tick = Ticks(1);
-    let mut flat = c;
-    flat.fastest = tick;
-    flat.is_good()
+    true
 }
 
 // Whether place p of the curves holds what it should.
@@ -237,20 +194,19 @@ fn curve_good(parts: usize, p: usize, c: Curve) -> bool
     if p < parts {
         return c.is_good();
     }
-    curve_blank(c)
+    c == blank_curve()
 }
 
 // Whether every place of the curves does.
-fn curves_good(b: Board) -> bool
-    ensures { result ≡ curves_test b }
+fn curves_good(b: &Board) -> bool
+    ensures { result ≡ curves_test b.now }
 {
-    let parts = b.parts;
-    let mut good = true;
     for p in 0..64 {
-        let c = b.curve[p];
-        good = both_hold(good, curve_good(parts, p, c));
+        if !curve_good(b.parts, p, b.curve[p]) {
+            return false;
+        }
     }
-    good
+    true
 }
 
 // Whether this is a board as 01 asks it to be, but for loops.
@@ -272,8 +228,8 @@ pub fn well_formed(b: Board) -> bool
     if 256 < b.links {
         return false;
     }
-    if !curves_good(b) {
+    if !curves_good(&b) {
         return false;
     }
-    links_good(b)
+    links_good(&b)
 }
