@@ -29,7 +29,13 @@ fn settle(net: &Net, time: &mut [u32; 130], load: &[u32; 448], due: u32, a: u32)
 }
 
 // The arcs of `via`, one after another.
-fn follow(net: &Net, time: &mut [u32; 130], load: &[u32; 448], via: &[u32; 130], due: u32) -> Option<()>
+fn follow(
+    net: &Net,
+    time: &mut [u32; 130],
+    load: &[u32; 448],
+    via: &[u32; 130],
+    due: u32,
+) -> Option<()>
     requires fair_in { FairIn net.now due }
     requires within { Within due time.old }
     ensures { FollowedIn net.now load.now due time.old time.new result }
@@ -54,7 +60,13 @@ fn sweep(net: &Net, time: &mut [u32; 130], load: &[u32; 448], due: u32) -> Optio
 }
 
 // The arcs of `via`, and then all arcs until none asks.
-fn raise(net: &Net, time: &mut [u32; 130], load: &[u32; 448], via: &[u32; 130], due: u32) -> Option<()>
+fn raise(
+    net: &Net,
+    time: &mut [u32; 130],
+    load: &[u32; 448],
+    via: &[u32; 130],
+    due: u32,
+) -> Option<()>
     requires fair_in { FairIn net.now due }
     requires within { Within due time.old }
     ensures { RaisedIn net.now load.now due time.old time.new result }
@@ -65,7 +77,13 @@ fn raise(net: &Net, time: &mut [u32; 130], load: &[u32; 448], via: &[u32; 130], 
 }
 
 // The first times that fit the loads and end at the deadline, or no.
-pub(crate) fn decide(net: &Net, time: &mut [u32; 130], load: &[u32; 448], via: &[u32; 130], due: u32) -> bool
+pub(crate) fn decide(
+    net: &Net,
+    time: &mut [u32; 130],
+    load: &[u32; 448],
+    via: &[u32; 130],
+    due: u32,
+) -> bool
     requires { FairIn net.now due }
     ensures { DecidedIn net.now load.now due time.new result }
 {

@@ -1,9 +1,9 @@
 -- The ways of turning a net round in its sheet, and what its verdict comes to: the last times are the latest of the cheapest.
 -- Assumes nothing.
-use mathlib.Core.Path.{◌≡◌, refl, sym, ap, ◌∙◌}
+use mathlib.Core.Path.{◌≡◌, refl, ap}
 use mathlib.Core.Bool.{Bool, true, false}
 use mathlib.Core.List.{List}
-use Prim.Native.Nat.{ℕ, ◌+◌, ◌-◌, ◌≤◌, ◌<◌}
+use Prim.Native.Nat.{ℕ, ◌<◌}
 use native.Mathlib.Omega.{arith}
 use Rattle.theory.specs.Sum.{cells}
 use Rattle.theory.specs.Graph.{Graph, Times, Lawful, Feasible, Slack}

@@ -1,7 +1,7 @@
 -- The main loop: from times and loads that fit, and end too late, down to the deadline. `StateIn` is what every turn keeps; each turn leaves less to do
 -- (`left` of the crate `nets`), since above the deadline no more than 64,000 can come to the sink.
 -- Assumes nothing.
-use Rattle.std.specs.Prelude.{◌≡◌, ℕ, ◌+◌, ◌≤◌, ◌<◌}
+use Rattle.std.specs.Prelude.{◌≡◌, ℕ, ◌≤◌, ◌<◌}
 use Rattle.theory.specs.Sum.{cells}
 use Rattle.nets.specs.declared.Net.{Net}
 use Rattle.nets.specs.declared.Work.{Work}

@@ -1,6 +1,6 @@
 -- The two sheets, net and work, as the network, times and loads that they hold, and one arc as both say it.
 -- Assumes nothing.
-use Rattle.std.specs.Prelude.{List, ℕ, ◌+◌, ◌≤◌, ◌<◌}
+use Rattle.std.specs.Prelude.{ℕ, ◌+◌, ◌≤◌, ◌<◌}
 use Rattle.theory.specs.Sum.{cells}
 use Rattle.nets.specs.declared.Net.{Net}
 use Rattle.nets.specs.declared.Work.{Work}

@@ -2,7 +2,7 @@
 -- The idea (documents 000 and 003): loads that conserve, and times that are slack with them, prove the times cheapest; the first times that are slack
 -- with them are the budget held. The subtle point: there may be many such flows, and no statement says which one is given.
 -- Assumes nothing.
-use Rattle.std.specs.Prelude.{ℕ, ◌<◌, ◌≤◌, List, [], Result, Ok, Err}
+use Rattle.std.specs.Prelude.{ℕ, ◌<◌, ◌≤◌, [], Result, Ok, Err}
 use Rattle.theory.specs.Graph.{Ranked}
 use Rattle.theory.specs.Budget.{Timed}
 use Rattle.board.specs.declared.Board.{Board}

@@ -3,7 +3,7 @@
 use mathlib.Core.Path.{◌≡◌, refl, sym, ◌∙◌}
 use mathlib.Core.Bool.{Bool, true, false}
 use mathlib.Core.List.{List}
-use Prim.Native.Nat.{ℕ, ◌≤◌, ◌<◌}
+use Prim.Native.Nat.{ℕ, ◌<◌}
 use native.Mathlib.Omega.{arith}
 use native.Mathlib.Decide.{ℕ_discrete}
 use lib.ListN.{length, replicate}
@@ -11,7 +11,7 @@ use Rattle.theory.specs.Sum.{share, into, cells}
 use Rattle.theory.proofs.SumLaws.{sum_ext, sum_zero, share_eq, share_ne}
 use Rattle.nets.specs.declared.Net.{Net}
 use Rattle.nets.specs.declared.Work.{Work}
-use Rattle.nets.specs.Flow.{Fit, World, First, Never}
+use Rattle.nets.specs.Flow.{World, First, Never}
 use Rattle.nets.specs.Sheet.{net_in, GoodIn, WideIn}
 use Rattle.nets.proofs.Steps.{fill_cell, flows_not_never}
 use Rattle.mainloop.specs.Crashing.{CrashedIn}

@@ -7,11 +7,11 @@ use mathlib.Core.List.{List}
 use Rattle.std.specs.Prelude.{Option, Some, None}
 use Rattle.std.specs.Option.{is_some}
 use Rattle.std.proofs.lemmas.List.{length-replicate}
-use Prim.Native.Nat.{ℕ, ◌+◌, ◌*◌, ◌-◌, ◌≤◌, ◌<◌}
+use Prim.Native.Nat.{ℕ, ◌+◌, ◌≤◌, ◌<◌}
 use native.Mathlib.Omega.{arith}
 use native.Mathlib.Decide.{ℕ_discrete}
 use lib.ListN.{length, set, replicate}
-use Rattle.theory.specs.Sum.{sum, cells}
+use Rattle.theory.specs.Sum.{cells}
 use Rattle.theory.proofs.SumLaws.{below_suc}
 use Rattle.nets.specs.declared.Net.{Net}
 use Rattle.nets.specs.Flow.{Fit}
@@ -19,7 +19,7 @@ use Rattle.nets.specs.Sheet.{net_in, gain_in, BendsIn}
 use Rattle.nets.specs.Steps.{Put}
 use Rattle.nets.proofs.Steps.{put_cell, fill_cell}
 use Rattle.deciding.specs.Asking.{Early, Says, Lags, PlacedIn, ends_in, AsksIn}
-use Rattle.deciding.specs.Raising.{FairIn, Within, RisesIn, FitIn, HopelessIn, GivenIn, FollowingIn, SweepingIn, RestingIn, RaisedIn, DecidedIn, left, Raised, Rises}
+use Rattle.deciding.specs.Raising.{FairIn, Within, RisesIn, FitIn, HopelessIn, GivenIn, FollowingIn, SweepingIn, RestingIn, RaisedIn, DecidedIn, left, Raised}
 use Rattle.deciding.specs.declared.asking.Ends.{Ends}
 use Rattle.deciding.specs.declared.asking.Raise.{Raise}
 use Rattle.deciding.proofs.asking.Asking.{ends_early, says_asks}

@@ -1,19 +1,18 @@
 -- One arc: the run that a tick lies in, and what each way out of `judge` gives.
 -- Assumes nothing.
-use mathlib.Core.Path.{◌≡◌, refl, ap, ◌∙◌}
-use mathlib.Core.List.{List}
+use mathlib.Core.Path.{◌≡◌, refl, ap}
 use Prim.Native.Nat.{ℕ, suc, min, ◌+◌, ◌*◌, ◌-◌, ◌≤◌, ◌<◌}
 use native.Mathlib.Omega.{arith}
 use native.Mathlib.Decide.{dec_lt}
 use native.Mathlib.Numerals.{add-one}
 use mir.Syntax.{w32}
 use mir.Val.{Fits}
-use lib.ListN.{length, get_or-eq_default}
+use lib.ListN.{length}
 use Rattle.theory.specs.Sum.{sum, cells}
-use Rattle.theory.proofs.SumLaws.{sum_mono, sum_zero, sum_ext}
-use Rattle.theory.proofs.RunLaws.{tick_past, tick_run, tick_falls}
+use Rattle.theory.proofs.SumLaws.{sum_mono}
+use Rattle.theory.proofs.RunLaws.{tick_run}
 use Rattle.nets.specs.declared.Net.{Net}
-use Rattle.nets.specs.Network.{length_at, saving_at, gain_of, Bends}
+use Rattle.nets.specs.Network.{length_at, saving_at, gain_of}
 use Rattle.nets.proofs.Gains.{gain_past, flat}
 use Rattle.nets.specs.Sheet.{gain_in, BendsIn}
 use Rattle.mainloop.specs.Judging.{RunAt, Judged, Judged.found, Judged.shut}

@@ -1,6 +1,6 @@
 -- Labels in the sheets: one more, and only the sink.
 -- Assumes nothing.
-use mathlib.Core.Path.{◌≡◌, sym, ap, ◌∙◌}
+use mathlib.Core.Path.{◌≡◌, sym, ap}
 use Prim.Native.Nat.{ℕ, ◌+◌, ◌<◌}
 use native.Mathlib.Omega.{arith}
 use Rattle.theory.specs.Sum.{cells}

@@ -1,6 +1,6 @@
 -- Pushes in the sheets: one arc of the way, and the whole of it. The way is never named: ranks fall along it, so no arc of it is met twice.
 -- Assumes nothing.
-use mathlib.Core.Path.{◌≡◌, refl, ap, ◌∙◌}
+use mathlib.Core.Path.{◌≡◌, refl, ◌∙◌}
 use Prim.Native.Nat.{ℕ, ◌+◌, ◌-◌, ◌≤◌, ◌<◌}
 use native.Mathlib.Omega.{arith}
 use native.Mathlib.Decide.{ℕ_discrete}
@@ -8,7 +8,7 @@ use lib.ListN.{length, set}
 use Rattle.theory.specs.Sum.{cells}
 use Rattle.nets.specs.declared.Net.{Net}
 use Rattle.nets.specs.declared.Work.{Work}
-use Rattle.nets.specs.Sheet.{net_in, Here}
+use Rattle.nets.specs.Sheet.{net_in}
 use Rattle.nets.specs.Label.{Labels}
 use Rattle.mainloop.specs.Labelling.{LabelsIn}
 use Rattle.mainloop.specs.Pushing.{Loading, CarriableIn, CarriesIn, PushableIn, CarriedIn, PushedIn}

@@ -1,9 +1,9 @@
 -- What the arcs of a board save: a part what its curve saves, another arc nothing.
 -- Assumes nothing.
-use Rattle.std.proofs.Common.{◌≡◌, ℕ, zero, suc, ◌+◌, ◌-◌, ◌*◌, ◌/◌, ◌%◌, ◌<◌, ◌≤◌, List, length, refl, ap, ◌∙◌, ⊎_elim, arith}
+use Rattle.std.proofs.Common.{◌≡◌, ℕ, zero, suc, ◌+◌, ◌-◌, ◌*◌, ◌/◌, ◌%◌, ◌<◌, ◌≤◌, List, refl, ap, ◌∙◌, ⊎_elim, arith}
 use lib.ListN.{get_or-eq_default, get_or-replicate}
 use Rattle.base.proofs.Cases.{lt_or_le}
-use Rattle.theory.specs.Sum.{sum, cells}
+use Rattle.theory.specs.Sum.{sum}
 use Rattle.theory.specs.Saving.{tick}
 use Rattle.theory.proofs.SumLaws.{sum_ext, sum_zero, sum_split}
 use Rattle.curve.specs.declared.Run.{Run}

@@ -1,6 +1,6 @@
 -- The ways through the wiring: an arc put, a block of arcs one by one, the runs.
 -- Assumes nothing.
-use Rattle.std.proofs.Common.{◌≡◌, ℕ, ◌+◌, ◌/◌, ◌%◌, ◌<◌, ◌≤◌, ◌≢◌, List, length, get_or, set, sym, refl, ap, ◌∙◌, arith, length-set, get_or-set_other, get_or-set_same, w64, Fits}
+use Rattle.std.proofs.Common.{◌≡◌, ℕ, ◌+◌, ◌/◌, ◌%◌, ◌<◌, ◌≤◌, List, length, get_or, set, sym, refl, ap, ◌∙◌, arith, length-set, get_or-set_other, get_or-set_same, w64, Fits}
 use native.Mathlib.Decide.{ℕ_discrete}
 use Rattle.theory.specs.Sum.{cells}
 use Rattle.nets.specs.declared.Net.{Net}

@@ -1,7 +1,7 @@
 -- `raising::settle` meets its contract.
 -- Assumes nothing.
 use borrow.Author.Rules.{rules}
-use Rattle.deciding.proofs.raising.Raising.{settle_past, settle_placed, settle_early, settle_quiet, settle_node, settle_source, settle_late, settle_raised}
+use Rattle.deciding.proofs.raising.Raising.{settle_early, settle_quiet, settle_node, settle_source, settle_late, settle_raised}
 use Rattle.deciding.proofs.raising.settle.Goals as goal
 
 pub ask-requires-clause-early : goal.ask-requires-clause-early

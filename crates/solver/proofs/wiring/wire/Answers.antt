@@ -1,6 +1,5 @@
 -- `wiring::wire` meets its contract.
 -- Assumes nothing.
-use Rattle.solver.proofs.wiring.Laying.{arcs_fit}
 use Rattle.solver.proofs.wiring.Wiring.{network_laid}
 use Rattle.solver.proofs.wiring.wire.Goals as goal
 
