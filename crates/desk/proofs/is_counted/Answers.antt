@@ -1,36 +1,29 @@
+use Rattle.std.proofs.Common.{arith}
+use Rattle.std.proofs.lemmas.Bool.Decides.{nat_tests}
 use Rattle.base.specs.Pick.{pick}
-use Rattle.base.proofs.Tests.{tests}
 use Rattle.refusal.specs.Refusal.{among}
 use Rattle.desk.proofs.is_counted.Goals as goal
 
-pub returns-then-number-eq7 : goal.returns-then-number-eq7
+pub returns-in_default : goal.returns-in_default
 unfolding among pick
-returns-then-number-eq7 c = search tests
+returns-in_default c = grind (arith, nat_tests)
 
-pub returns-then-number-eq9 : goal.returns-then-number-eq9
+pub returns-in_default-2 : goal.returns-in_default-2
 unfolding among pick
-returns-then-number-eq9 c = search tests
+returns-in_default-2 c = grind (arith, nat_tests)
 
-pub returns-then-number-eq10 : goal.returns-then-number-eq10
+pub returns-in_default-3 : goal.returns-in_default-3
 unfolding among pick
-returns-then-number-eq10 c = search tests
+returns-in_default-3 c = grind (arith, nat_tests)
 
-pub returns-then-number-eq13 : goal.returns-then-number-eq13
+pub returns-in-7 : goal.returns-in-7
 unfolding among pick
-returns-then-number-eq13 c = search tests
+returns-in-7 c = grind (arith, nat_tests)
 
-pub returns-then-number-eq14 : goal.returns-then-number-eq14
+pub returns-in-7-2 : goal.returns-in-7-2
 unfolding among pick
-returns-then-number-eq14 c = search tests
+returns-in-7-2 c = grind (arith, nat_tests)
 
-pub returns-then-number-eq15 : goal.returns-then-number-eq15
+pub returns-in-7-3 : goal.returns-in-7-3
 unfolding among pick
-returns-then-number-eq15 c = search tests
-
-pub returns-then-number-eq17 : goal.returns-then-number-eq17
-unfolding among pick
-returns-then-number-eq17 c = search tests
-
-pub returns : goal.returns
-unfolding among pick
-returns c = search tests
+returns-in-7-3 c = grind (arith, nat_tests)
