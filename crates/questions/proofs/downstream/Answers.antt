@@ -1,10 +1,8 @@
--- `downstream` meets its contract.
--- Assumes nothing.
-use Rattle.questions.proofs.Answering.{downstream_given, downstream_none}
+use Rattle.questions.proofs.Answering.{downstream_none, downstream_given}
 use Rattle.questions.proofs.downstream.Goals as goal
 
-pub returns-in-Refused : goal.returns-in-Refused
-returns-in-Refused c = search (downstream_given, downstream_none)
+pub returns-in_err-held : goal.returns-in_err-held
+returns-in_err-held c = search (downstream_none, c.in_err-held.ensures)
 
-pub returns-in-Done : goal.returns-in-Done
-returns-in-Done c = search (downstream_given, downstream_none)
+pub returns : goal.returns
+returns c = search (downstream_given, c.in_ok-held.ensures)

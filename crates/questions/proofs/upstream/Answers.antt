@@ -1,10 +1,8 @@
--- `upstream` meets its contract.
--- Assumes nothing.
-use Rattle.questions.proofs.Answering.{upstream_given, upstream_none}
+use Rattle.questions.proofs.Answering.{upstream_none, upstream_given}
 use Rattle.questions.proofs.upstream.Goals as goal
 
-pub returns-in-Refused : goal.returns-in-Refused
-returns-in-Refused c = search (upstream_given, upstream_none)
+pub returns-in_err-held : goal.returns-in_err-held
+returns-in_err-held c = search (upstream_none, c.in_err-held.ensures)
 
-pub returns-in-Done : goal.returns-in-Done
-returns-in-Done c = search (upstream_given, upstream_none)
+pub returns : goal.returns
+returns c = search (upstream_given, c.in_ok-held.ensures)
