@@ -32,7 +32,6 @@ use Rattle.board.specs.Board.{no_curve, plain_link, no_link, blank_curve, curve_
 use Rattle.board.specs.Tests.{blank_curves, blank_links, below_of}
 use Rattle.board.proofs.LinkLaws.{passed, link_same, below_one, below_order}
 use Rattle.board.proofs.UsableLaws.{under_well}
-use Rattle.design.specs.declared.Head.{Head}
 use Rattle.design.specs.Design.{version_at, part_from, parts_from, past, above, link_from, before_of, link_in, links_from, whole_at, board_of, linked_from, body_from, head_from, design_of, parts_bytes, links_bytes, linked_bytes, body_bytes, head_bytes, file_of}
 use Rattle.design.proofs.Rows.{RowRead, row_read, row_reads_back}
 
@@ -207,7 +206,7 @@ design_told rule s b n is =
     let w = pick_not_stopped _ _ _ b n r.rest in
     let parts = field_got s 1 64 d.place p.value p.place p.first in
     let links = field_got s 0 256 c.place l.value l.place l.first in
-    got_same (DesignTold rule s) (board_of (record { rule = rule; deadline = d.value; parts = p.value }) c.value l.value r.value) b r.place n w.1
+    got_same (DesignTold rule s) (board_of rule d.value p.value c.value l.value r.value) b r.place n w.1
     (record {
       at₀ = v.place;
       at₁ = d.place;
@@ -276,11 +275,8 @@ pub design_rule : (rule : Rule) (s : List ℕ) (b : Board) (n : ℕ) → design_
 design_rule rule s b n is = (design_told rule s b n is).ruled
 
 -- ---- a well-formed board written is read back, with nothing left over
-abbrev head_of : Board → Head
-head_of b = record { rule = b.rule; deadline = b.deadline.0; parts = b.parts }
-
 module _ (b : Board) (w : WellFormed b) where
-  linked_read_back : (s : List ℕ) (at n : ℕ) → length s ≤ n → Stands s at (encode b.links ++ links_bytes b b.links) n → linked_from s (head_of b) b.curve at ≡ got b n
+  linked_read_back : (s : List ℕ) (at n : ℕ) → length s ≤ n → Stands s at (encode b.links ++ links_bytes b b.links) n → linked_from s b.rule b.deadline.0 b.parts b.curve at ≡ got b n
   unfolding linked_from whole_at and_then pick
   linked_read_back s at n ended x =
       let l = encode b.links in
@@ -291,7 +287,7 @@ module _ (b : Board) (w : WellFormed b) where
         le-ltb n (length s) ended,
       )
 
-  body_read_back : (s : List ℕ) (at n : ℕ) → length s ≤ n → Stands s at (parts_bytes b b.parts ++ (encode b.links ++ links_bytes b b.links)) n → body_from s (head_of b) at ≡ got b n
+  body_read_back : (s : List ℕ) (at n : ℕ) → length s ≤ n → Stands s at (parts_bytes b b.parts ++ (encode b.links ++ links_bytes b b.links)) n → body_from s b.rule b.deadline.0 b.parts at ≡ got b n
   unfolding body_from and_then
   body_read_back s at n ended x =
       let c = parts_bytes b b.parts in

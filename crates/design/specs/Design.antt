@@ -17,7 +17,6 @@ use Rattle.board.specs.declared.Link.{Link}
 use Rattle.board.specs.declared.Board.{Board}
 use Rattle.board.specs.Board.{plain_link, no_link, curve_at, link_at}
 use Rattle.board.specs.Tests.{blank_curves, blank_links, below_of}
-use Rattle.design.specs.declared.Head.{Head}
 
 -- "version not 1", place 0
 unfoldable pub version_at : List ℕ → Parse ℕ
@@ -68,33 +67,33 @@ links_from s parts links at = repeat (in_place (link_in s parts)) blank_links at
 unfoldable pub whole_at : List ℕ → Board → ℕ → Parse Board
 whole_at s b at = pick (ltb at (length s)) (refusal 8 at) (got b at)
 
-abbrev pub board_of : Head → List Curve → ℕ → List Link → Board
-board_of head curve links link = record {
-  rule = head.rule;
-  deadline = record { 0 = head.deadline };
-  parts = head.parts;
+abbrev pub board_of : Rule → ℕ → ℕ → List Curve → ℕ → List Link → Board
+board_of rule deadline parts curve links link = record {
+  rule = rule;
+  deadline = record { 0 = deadline };
+  parts = parts;
   curve = curve;
   links = links;
   link = link;
 }
 
 -- link count and links, and nothing more
-unfoldable pub linked_from : List ℕ → Head → List Curve → ℕ → Parse Board
-linked_from s head curve at =
+unfoldable pub linked_from : List ℕ → Rule → ℕ → ℕ → List Curve → ℕ → Parse Board
+linked_from s rule deadline parts curve at =
     and_then (field_at s 0 256 at) (λ links at₁.
-    and_then (links_from s head.parts links at₁) (λ link at₂.
-    whole_at s (board_of head curve links link) at₂))
+    and_then (links_from s parts links at₁) (λ link at₂.
+    whole_at s (board_of rule deadline parts curve links link) at₂))
 
 -- parts and all that follows
-unfoldable pub body_from : List ℕ → Head → ℕ → Parse Board
-body_from s head at = and_then (parts_from s head.parts at) (linked_from s head)
+unfoldable pub body_from : List ℕ → Rule → ℕ → ℕ → ℕ → Parse Board
+body_from s rule deadline parts at = and_then (parts_from s parts at) (linked_from s rule deadline parts)
 
 -- deadline, part count and all that follows
 unfoldable pub head_from : List ℕ → Rule → ℕ → Parse Board
 head_from s rule at =
     and_then (field_at s 1 4095 at) (λ deadline at₁.
     and_then (field_at s 1 64 at₁) (λ parts at₂.
-    body_from s (record { rule = rule; deadline = deadline; parts = parts }) at₂))
+    body_from s rule deadline parts at₂))
 
 -- the board that a file describes under a rule, or the first of refusals 1 to 8 with its place
 unfoldable pub design_of : Rule → List ℕ → Parse Board

@@ -3,20 +3,12 @@
 
 ghost use Rattle.std.specs.Prelude.{◌≡◌, ◌≤◌, ◌<◌, ◌+◌, length};
 ghost use Rattle.board.specs.Tests.{blank_curves, blank_links};
-ghost use Rattle.design.specs.Design.{version_at, parts_from, above, link_from, links_from, whole_at, linked_from, body_from, head_from, design_of, design_read};
+ghost use Rattle.design.specs.Design.{version_at, parts_from, above, link_from, links_from, design_of, design_read};
 
 use board::{Board, Link, Rule};
 use curve::{Curve, Ticks};
 use groups::Read;
 use refusal::{Answer, Why};
-
-// What a file says before its parts, and the rule that it is read under.
-#[derive(Clone, Copy)]
-struct Head {
-    rule: Rule,
-    deadline: u32,
-    parts: usize,
-}
 
 // The version, which must be 1.
 #[tactic(auto, using(base::proofs::Tests::tests), unfolding(crate::specs::Design::version_at, fields::specs::Parse::and_then, base::specs::Pick::pick))]
@@ -109,67 +101,28 @@ fn read_links(s: &[u8], parts: usize, links: usize, at: usize) -> Answer<Read<[L
     Ok(Read { value: link, next })
 }
 
-// Nothing may follow the last link.
-#[tactic(auto, using(base::proofs::Tests::tests), unfolding(crate::specs::Design::whole_at, base::specs::Pick::pick))]
-fn whole(s: &[u8], b: Board, at: usize) -> Answer<Board>
-    ensures { result ≡ design_read (whole_at s.now b at) }
-{
-    if at < s.len() {
-        return Err(Why::BytesAfter.at(at));
-    }
-    Ok(b)
-}
-
-// Link count, links and the end of the file.
-#[tactic(auto, unfolding(crate::specs::Design::linked_from, fields::specs::Parse::and_then))]
-fn read_linked(s: &[u8], head: Head, curve: [Curve; 64], at: usize) -> Answer<Board>
-    requires { (1 ≤ head.parts) × (head.parts ≤ 64) }
-    ensures { result ≡ design_read (linked_from s.now head curve at) }
-{
-    let links = fields::field(s, at, 0, 256)?;
-    let read = read_links(s, head.parts, links.value as usize, links.next)?;
-    let link = read.value;
-    let b = Board {
-        rule: head.rule,
-        deadline: Ticks(head.deadline),
-        parts: head.parts,
-        curve,
-        links: links.value as usize,
-        link,
-    };
-    whole(s, b, read.next)
-}
-
-// All that follows the part count.
-#[tactic(auto, unfolding(crate::specs::Design::body_from, fields::specs::Parse::and_then))]
-fn read_body(s: &[u8], head: Head, at: usize) -> Answer<Board>
-    requires { (1 ≤ head.parts) × (head.parts ≤ 64) }
-    ensures { result ≡ design_read (body_from s.now head at) }
-{
-    let read = read_parts(s, head.parts, at)?;
-    read_linked(s, head, read.value, read.next)
-}
-
-// All that follows the version.
-#[tactic(auto, unfolding(crate::specs::Design::head_from, fields::specs::Parse::and_then))]
-fn read_head(s: &[u8], rule: Rule, at: usize) -> Answer<Board>
-    ensures { result ≡ design_read (head_from s.now rule at) }
-{
-    let deadline = fields::field(s, at, 1, 4095)?;
-    let parts = fields::field(s, deadline.next, 1, 64)?;
-    let head = Head {
-        rule,
-        deadline: deadline.value,
-        parts: parts.value as usize,
-    };
-    read_body(s, head, parts.next)
-}
-
-// The board that a file describes under a rule, or the first fault.
-#[tactic(auto, unfolding(crate::specs::Design::design_of, fields::specs::Parse::and_then))]
+// The board that a file describes under a rule, or the first fault. Nothing may follow the last link.
+#[tactic(auto, using(base::proofs::Tests::tests), unfolding(crate::specs::Design::design_of, crate::specs::Design::head_from, crate::specs::Design::body_from, crate::specs::Design::linked_from, crate::specs::Design::whole_at, fields::specs::Parse::and_then, base::specs::Pick::pick))]
 pub fn read_design(s: &[u8], rule: Rule) -> Answer<Board>
     ensures { result ≡ design_read (design_of rule s.now) }
 {
     let version = read_version(s)?;
-    read_head(s, rule, version.next)
+    let deadline = fields::field(s, version.next, 1, 4095)?;
+    let parts = fields::field(s, deadline.next, 1, 64)?;
+    let curves = read_parts(s, parts.value as usize, parts.next)?;
+    let count = fields::field(s, curves.next, 0, 256)?;
+    let links = read_links(s, parts.value as usize, count.value as usize, count.next)?;
+    if links.next < s.len() {
+        return Err(Why::BytesAfter.at(links.next));
+    }
+    let curve = curves.value;
+    let link = links.value;
+    Ok(Board {
+        rule,
+        deadline: Ticks(deadline.value),
+        parts: parts.value as usize,
+        curve,
+        links: count.value as usize,
+        link,
+    })
 }

@@ -73,25 +73,19 @@ module _ (b : Board) (t : Bool) (test : Decides t (WellFormed b)) where
   uncounted is = record { formed = λ w. absurd (never t (test.no w) is); none = λ no. refl }
 
 -- ---- writers one after the other
-pub linked_written :
-    (b : Board) (buf : List ℕ) (at m : ℕ) (buf₁ : List ℕ) (n : ℕ) (buf₂ : List ℕ) → WellFormed b →
-    WroteOrNothing buf at (encode b.links) m buf₁ → WroteIfRoom buf₁ m (flat_map link_bytes (take b.links b.link)) n buf₂ → WroteIfRoom buf at (linked_bytes b) n buf₂
-unfolding linked_bytes
-linked_written b buf at m buf₁ n buf₂ w one two = rw (links_are b w) (then_wrote buf at _ m buf₁ _ n buf₂ one two)
-
-pub body_written :
-    (b : Board) (buf : List ℕ) (at m : ℕ) (buf₁ : List ℕ) (n : ℕ) (buf₂ : List ℕ) → WellFormed b →
-    WroteIfRoom buf at (flat_map curve_bytes (take b.parts b.curve)) m buf₁ → WroteIfRoom buf₁ m (linked_bytes b) n buf₂ → WroteIfRoom buf at (body_bytes b) n buf₂
-unfolding body_bytes
-body_written b buf at m buf₁ n buf₂ w one two = rw (curves_are b w) (room_more buf at _ m buf₁ _ n buf₂ one two)
-
-pub head_written :
-    (b : Board) (buf : List ℕ) (at m : ℕ) (buf₁ : List ℕ) (n : ℕ) (buf₂ : List ℕ) (e : ℕ) (buf₃ : List ℕ) →
-    WroteOrNothing buf at (encode b.deadline.0) m buf₁ → WroteOrNothing buf₁ m (encode b.parts) n buf₂ → WroteIfRoom buf₂ n (body_bytes b) e buf₃ →
-    WroteIfRoom buf at (head_bytes b) e buf₃
-unfolding head_bytes
-head_written b buf at m buf₁ n buf₂ e buf₃ one two three =
-    then_wrote buf at _ m buf₁ _ e buf₃ one (then_wrote buf₁ m _ n buf₂ _ e buf₃ two three)
+pub file_filled :
+    (b : Board) (buf : List ℕ) (m₁ : ℕ) (b₁ : List ℕ) (m₂ : ℕ) (b₂ : List ℕ) (m₃ : ℕ) (b₃ : List ℕ) (m₄ : ℕ) (b₄ : List ℕ) (m₅ : ℕ) (b₅ : List ℕ) (m₆ : ℕ) (b₆ : List ℕ) →
+    WellFormed b → WroteOrNothing buf 0 (encode 1) m₁ b₁ → WroteOrNothing b₁ m₁ (encode b.deadline.0) m₂ b₂ → WroteOrNothing b₂ m₂ (encode b.parts) m₃ b₃ →
+    WroteIfRoom b₃ m₃ (flat_map curve_bytes (take b.parts b.curve)) m₄ b₄ → WroteOrNothing b₄ m₄ (encode b.links) m₅ b₅ →
+    WroteIfRoom b₅ m₅ (flat_map link_bytes (take b.links b.link)) m₆ b₆ → WroteIfRoom buf 0 (file_of b) m₆ b₆
+unfolding file_of head_bytes body_bytes linked_bytes
+file_filled b buf m₁ b₁ m₂ b₂ m₃ b₃ m₄ b₄ m₅ b₅ m₆ b₆ w one deadline parts curves links row =
+    rw (curves_are b w, links_are b w)
+    (then_wrote buf 0 _ m₁ b₁ _ m₆ b₆ one
+    (then_wrote b₁ m₁ _ m₂ b₂ _ m₆ b₆ deadline
+    (then_wrote b₂ m₂ _ m₃ b₃ _ m₆ b₆ parts
+    (room_more b₃ m₃ _ m₄ b₄ _ m₆ b₆ curves
+    (then_wrote b₄ m₄ _ m₅ b₅ _ m₆ b₆ links row)))))
 
 -- ---- `write_design`
 short_stays : (short : Bool) (buf full : List ℕ) (w e : Refusal) → pick {A = Answer Unit} short (Err w) (Ok tt) ≡ Err e → pick short buf full ≡ buf
@@ -119,19 +113,14 @@ module _ (b : Board) (t : Bool) (test : Decides t (WellFormed b)) (is_formed : t
     unfolding write_of pick
     done = rw (← is, le-ltb (length buf) needed h)
 
-    file_room : 0 + length (encode 1 ++ head_bytes b) ≤ length buf
-    unfolding file_of
-    file_room = omega arith
-
-    module _ (next : ℕ) (buf₁ : List ℕ) (one : WroteOrNothing buf 0 (encode 1) next buf₁) (n : ℕ) (buf₂ : List ℕ) (two : WroteIfRoom buf₁ next (head_bytes b) n buf₂) where
-      filled : buf₂ ≡ buffer_of b buf
-      unfolding buffer_of file_of pick
+    module _ (n : ℕ) (buf' : List ℕ) (wrote : WroteIfRoom buf 0 (file_of b) n buf') where
+      filled : buf' ≡ buffer_of b buf
+      unfolding buffer_of pick
       filled =
-          let all = (then_wrote buf 0 (encode 1) next buf₁ (head_bytes b) n buf₂ one two).wrote file_room in
-          let long : needed ≡ length (encode 1 ++ head_bytes b) = is in
-          let past : 0 + length (encode 1 ++ head_bytes b) ≡ needed = omega arith in
-          rw (← long, le-ltb (length buf) needed h)
-          (all.holds ∙ sets-eq (encode 1 ++ head_bytes b) buf 0 file_room ∙ ap (λ (i : ℕ). (encode 1 ++ head_bytes b) ++ drop i buf) past)
+          let room : 0 + length (file_of b) ≤ length buf = omega arith in
+          let all = wrote.wrote room in
+          rw (← is, le-ltb (length buf) needed h)
+          (all.holds ∙ sets-eq (file_of b) buf 0 room ∙ (let past : 0 + length (file_of b) ≡ needed = omega arith in ap (λ (i : ℕ). file_of b ++ drop i buf) past))
 
-      pub file_written : FileWritten b buf (Ok tt) buf₂
-      file_written = for_formed (Ok tt) buf₂ done filled
+      pub file_written : FileWritten b buf (Ok tt) buf'
+      file_written = for_formed (Ok tt) buf' done filled

@@ -4,7 +4,7 @@
 ghost use Rattle.std.specs.Prelude.{◌≡◌, length};
 ghost use Rattle.fields.specs.Writing.{WroteIfRoom};
 ghost use Rattle.board.specs.Board.{WellFormed};
-ghost use Rattle.design.specs.Design.{linked_bytes, body_bytes, head_bytes, file_of};
+ghost use Rattle.design.specs.Design.{file_of};
 ghost use Rattle.design_write.specs.Write.{FileCounted, FileWritten};
 
 use board::Board;
@@ -29,29 +29,17 @@ pub fn design_size(b: Board) -> Option<usize>
     Some(file_size(b))
 }
 
-fn write_linked(buf: &mut [u8], at: usize, b: Board) -> usize
+// The file of a board, from the front of a buffer on.
+fn write_file(b: Board, buf: &mut [u8]) -> usize
     requires { WellFormed b }
-    ensures { WroteIfRoom buf.old at (linked_bytes b) result buf.new }
+    ensures { WroteIfRoom buf.old 0 (file_of b) result buf.new }
 {
-    let next = fields::put(buf, at, b.links);
-    fields::write_row(buf, next, &b.link[..b.links])
-}
-
-fn write_body(buf: &mut [u8], at: usize, b: Board) -> usize
-    requires { WellFormed b }
-    ensures { WroteIfRoom buf.old at (body_bytes b) result buf.new }
-{
-    let next = fields::write_row(buf, at, &b.curve[..b.parts]);
-    write_linked(buf, next, b)
-}
-
-fn write_head(buf: &mut [u8], at: usize, b: Board) -> usize
-    requires { WellFormed b }
-    ensures { WroteIfRoom buf.old at (head_bytes b) result buf.new }
-{
-    let parts_at = fields::put(buf, at, b.deadline.0 as usize);
-    let next = fields::put(buf, parts_at, b.parts);
-    write_body(buf, next, b)
+    let deadline_at = fields::put(buf, 0, 1);
+    let parts_at = fields::put(buf, deadline_at, b.deadline.0 as usize);
+    let curves_at = fields::put(buf, parts_at, b.parts);
+    let count_at = fields::write_row(buf, curves_at, &b.curve[..b.parts]);
+    let links_at = fields::put(buf, count_at, b.links);
+    fields::write_row(buf, links_at, &b.link[..b.links])
 }
 
 // Writes a board's file at the front of a buffer that has room for it. A value that is no well-formed board is refused as no board.
@@ -65,7 +53,6 @@ pub fn write_design(b: Board, buf: &mut [u8]) -> Answer
     if buf.len() < needed {
         return Err(Why::BufferShort.at(needed));
     }
-    let next = fields::put(buf, 0, 1);
-    write_head(buf, next, b);
+    write_file(b, buf);
     Ok(())
 }

@@ -10,8 +10,8 @@ file_size-needed-requires c = search (formed)
 pub returns-then-buf-needed : goal.returns-then-buf-needed
 returns-then-buf-needed c = search (too_short)
 
-pub write_head-requires : goal.write_head-requires
-write_head-requires c = search (formed)
+pub write_file-requires : goal.write_file-requires
+write_file-requires c = search (formed)
 
 pub returns : goal.returns
 returns c = search (file_written)
