@@ -4,7 +4,7 @@
 ghost use Rattle.std.specs.Prelude.{◌≡◌};
 ghost use Rattle.kin.specs.Critical.{criticalb, critical_at, Critical, CriticalRows};
 ghost use Rattle.kin.specs.Kin.{KinOf};
-ghost use Rattle.kin.specs.Steps.{no_marks, no_rows_of, marked_of, with_link_of, joined_of, gathered_of, Led, Grown};
+ghost use Rattle.kin.specs.Steps.{joined_of, gathered_of, Led, Grown};
 
 use board::{Board, Link};
 use budget::Budget;
@@ -23,8 +23,8 @@ pub struct Kin {
 }
 
 // Whether a link is critical. The difference is compared with the link's ticks, so no sum can overflow.
-fn critical(held: Budget, l: Link) -> bool
-    ensures { result ≡ criticalb held l }
+fn critical(held: &Budget, l: Link) -> bool
+    ensures { result ≡ criticalb held.now l }
 {
     let p = l.from;
     let q = l.to;
@@ -51,64 +51,24 @@ pub fn link_is_critical(b: Board, held: Budget, l: usize) -> bool
     if n <= l {
         return false;
     }
-    critical(held, b.link[l])
-}
-
-fn no_marks() -> [u64; 64]
-    ensures { result ≡ no_marks }
-{
-    [0u64; 64]
-}
-
-fn no_rows() -> Rows
-    ensures { result ≡ no_rows_of }
-{
-    let none = no_marks();
-    Rows {
-        down: none,
-        up: none,
-    }
-}
-
-// Row p gets mark q, if it is to be added.
-fn marked(rows: [u64; 64], add: bool, p: usize, q: usize) -> [u64; 64]
-    ensures { result ≡ marked_of rows add p q }
-{
-    if !add {
-        return rows;
-    }
-    if 64 <= p {
-        return rows;
-    }
-    let mut next = rows;
-    next[p] = marks::insert(rows[p], q);
-    next
-}
-
-// The rows with a link more, if it is to be added.
-fn with_link(t: Rows, add: bool, l: Link) -> Rows
-    ensures { result ≡ with_link_of t add l }
-{
-    let down = t.down;
-    let up = t.up;
-    let p = l.from;
-    let q = l.to;
-    Rows {
-        down: marked(down, add, p, q),
-        up: marked(up, add, q, p),
-    }
+    critical(&held, b.link[l])
 }
 
 // The critical links of the board.
-fn critical_rows(b: Board, held: Budget) -> Rows
-    ensures { CriticalRows b held result }
+fn critical_rows(b: &Board, held: &Budget) -> Rows
+    ensures { CriticalRows b.now held.now result }
 {
     let n = b.links.min(256);
-    let mut t = no_rows();
+    let mut t = Rows {
+        down: [0; 64],
+        up: [0; 64],
+    };
     for k in 0..n {
         let l = b.link[k];
-        let next = with_link(t, critical(held, l), l);
-        t = next;
+        if critical(held, l) {
+            marks::mark(&mut t.down, l.from, l.to);
+            marks::mark(&mut t.up, l.to, l.from);
+        }
     }
     t
 }
@@ -170,6 +130,6 @@ fn parent_step(t: Rows, parents: u64, children: u64) -> Kin
 pub fn kin_of(b: Board, held: Budget, p: usize) -> Kin
     ensures { KinOf (Critical b held) p result }
 {
-    let t = critical_rows(b, held);
+    let t = critical_rows(&b, &held);
     child_step(t, marks::one(p), 0)
 }
