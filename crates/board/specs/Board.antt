@@ -20,6 +20,10 @@ no_curve = record { fastest = record { 0 = 0 }; power = record { 0 = 0 }; count 
 abbrev pub plain_link : ℕ → ℕ → Link
 plain_link from to = record { from = from; to = to; delay = record { 0 = 0 } }
 
+-- a link the other way round
+abbrev pub turned_link : Link → Link
+turned_link l = record { from = l.to; to = l.from; delay = l.delay }
+
 abbrev pub no_link : Link
 no_link = plain_link 0 0
 

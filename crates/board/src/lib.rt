@@ -2,7 +2,7 @@
 #![tactic(auto)]
 
 ghost use Rattle.std.specs.Prelude.{◌≡◌, ◌<◌};
-ghost use Rattle.board.specs.Board.{plain_link, delay_of, blank_curve, rule_number, rule_named, usable_under, usable, WellFormed};
+ghost use Rattle.board.specs.Board.{plain_link, turned_link, delay_of, blank_curve, rule_number, rule_named, usable_under, usable, WellFormed};
 ghost use Rattle.board.specs.Tests.{Decides, blank_curves, blank_links, empty_of, below_of, link_held, link_good, links_test, curve_good, curves_test};
 
 use curve::{Curve, Microwatts, Ticks};
@@ -32,6 +32,19 @@ pub struct Board {
     pub curve: [Curve; 64],
     pub links: usize,
     pub link: [Link; 256],
+}
+
+impl Link {
+    // The link the other way round.
+    pub fn turned(self) -> Link
+        ensures { result ≡ turned_link self }
+    {
+        Link {
+            from: self.to,
+            to: self.from,
+            delay: self.delay,
+        }
+    }
 }
 
 // What a place without a part holds.

@@ -1,51 +1,27 @@
 -- The ways through the functions of this crate, in plain values.
 -- Assumes nothing.
-use Rattle.std.proofs.Common.{◌≡◌, ℕ, zero, suc, ◌+◌, ◌-◌, ◌<◌, ◌≤◌, min, Bool, true, false, List, get_or, set, replicate, sym, refl, ap, ◌∙◌, add-zero, add-suc, add-one, arith, le-ltb, lt-ltb}
+use Rattle.std.proofs.Common.{◌≡◌, ℕ, zero, suc, ◌+◌, ◌-◌, ◌≤◌, Bool, true, List, length, get_or, sym, refl, ap, ◌∙◌, add-zero, add-suc, add-one, arith}
 use Rattle.std.specs.Prelude.{Some, None}
-use Rattle.base.specs.Pick.{pick}
 use Rattle.base.proofs.Cases.{finished}
 use Rattle.marks.specs.Marks.{has_of, one_of, insert_of, union_of, without_of, lowest_of}
 use Rattle.board.specs.declared.Link.{Link}
-use Rattle.board.specs.declared.Board.{Board}
-use Rattle.board.specs.Board.{link_at}
+use Rattle.board.specs.Board.{no_link}
 use Rattle.cone.specs.declared.Sweep.{Sweep}
-use Rattle.cone.specs.Sweeps.{no_rows, turned_of, with_link_of, rows_up_to, rows_of, visited_of, step_of, sweep_up_to, reached_of, cone_of, on_loop_of}
-
--- ---- `no_rows`, `turned`, `with_link`
-pub none_marked : replicate 64 0 ≡ no_rows
-unfolding no_rows
-none_marked = refl
-
-pub turned_back : (l : Link) (back : Bool) → back ≡ true → record { from = l.to; to = l.from; delay = l.delay } ≡ turned_of back l
-unfolding turned_of pick
-turned_back l back e = rw e
-
-pub turned_not : (l : Link) (back : Bool) → back ≡ false → l ≡ turned_of back l
-unfolding turned_of pick
-turned_not l back e = rw e
-
-module _ (rows : List ℕ) (l : Link) where
-  pub link_put : (x : ℕ) → l.from < 64 → x ≡ insert_of (get_or rows l.from 0) l.to → set rows l.from x ≡ with_link_of rows l
-  unfolding with_link_of pick
-  link_put x h e = rw (e, lt-ltb l.from 64 h)
-
-  pub link_past : 64 ≤ l.from → rows ≡ with_link_of rows l
-  unfolding with_link_of pick
-  link_past h = rw (le-ltb l.from 64 h)
+use Rattle.marks.specs.Rows.{with_mark, marks_up_to}
+use Rattle.marks.proofs.Rows.{marks_more}
+use Rattle.cone.specs.Sweeps.{rows_of, visited_of, step_of, sweep_up_to, reached_of, cone_of, on_loop_of}
 
 -- ---- `rows`
-module _ (b : Board) (back : Bool) where
-  pub rows_none : (s : List ℕ) → s ≡ no_rows → s ≡ rows_up_to b back 0
-  unfolding rows_up_to
-  rows_none s e = e
+module _ (link : List Link) where
+  abbrev pub rows_to : ℕ → List ℕ
+  rows_to k = marks_up_to (λ l. true) (λ l. (get_or link l no_link).from) (λ l. (get_or link l no_link).to) k
 
-  pub rows_more : (s r : List ℕ) (l : Link) (k : ℕ) → s ≡ rows_up_to b back k → l ≡ turned_of back (link_at b k) → r ≡ with_link_of s l → r ≡ rows_up_to b back (k + 1)
-  unfolding rows_up_to
-  rows_more s r l k is el er = rw (add-one, ← is, ← el) er
+  pub rows_more : (s r : List ℕ) (k : ℕ) → s ≡ rows_to k → r ≡ with_mark s (get_or link k no_link).from (get_or link k no_link).to → r ≡ rows_to (k + 1)
+  rows_more s r k is new = marks_more _ _ _ s r k is refl new
 
-  pub rows_done : (s : List ℕ) (k n : ℕ) → n ≡ min b.links 256 → k ≤ n → n ≤ k → s ≡ rows_up_to b back k → s ≡ rows_of b back
+  pub rows_done : (s : List ℕ) (k : ℕ) → k ≤ length link → length link ≤ k → s ≡ rows_to k → s ≡ rows_of link
   unfolding rows_of
-  rows_done s k n e l h is = rw (← e) (finished (rows_up_to b back) l h is)
+  rows_done s k l h is = finished rows_to l h is
 
 -- ---- `visited`, `reached`
 pub visited_so : (s : Sweep) (p row d u t : ℕ) → d ≡ insert_of s.done p → u ≡ union_of s.todo row → t ≡ without_of u d → record { done = d; todo = t } ≡ visited_of s p row
@@ -80,9 +56,9 @@ module _ (rows : List ℕ) (from : ℕ) where
   sweep_done s k is l h = ap (λ (x : Sweep). x.done) (finished (sweep_up_to rows from) l h is)
 
 -- ---- `cone`, `on_loop`
-pub cone_so : (b : Board) (back : Bool) (p o r : ℕ) (rows : List ℕ) → rows ≡ rows_of b back → o ≡ one_of p → r ≡ reached_of rows o → r ≡ cone_of b back p
+pub cone_so : (link : List Link) (rows : List ℕ) (p o r : ℕ) → rows ≡ rows_of link → o ≡ one_of p → r ≡ reached_of rows o → r ≡ cone_of (rows_of link) p
 unfolding cone_of
-cone_so b back p o r rows e eo er = rw (← e, ← eo) er
+cone_so link rows p o r made eo er = rw (← made, ← eo) er
 
 pub on_loop_so : (rows : List ℕ) (p r : ℕ) (t : Bool) → r ≡ reached_of rows (get_or rows p 0) → t ≡ has_of r p → t ≡ on_loop_of rows p
 unfolding on_loop_of
