@@ -1,5 +1,5 @@
 -- What the loop keeps, and its measure.
-use Prim.Native.Nat.{◌≤◌, ◌-◌}
+use Prim.Native.Nat.{◌≤◌}
 use mathlib.Core.Path.{◌≡◌}
 use Rattle.late.specs.Late.{left_of}
 use Rattle.late.proofs.left.Given as goal
