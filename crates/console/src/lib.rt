@@ -76,9 +76,10 @@ pub struct Out<W = Stdout> {
 impl Out {
     ghost use Rattle.console.specs.Output.{HasFailed};
 
-    // Nothing has failed yet.
+    // Nothing has failed yet, and nothing stands on the page.
     pub fn standard(rt: &HostRuntime) -> Out
-        ensures { ¬ (HasFailed result) }
+        ensures none { ¬ (HasFailed result) }
+        ensures begun { result.at ≡ 0 }
     {
         Out::to(rt.stdout())
     }
@@ -94,6 +95,7 @@ impl<W: Write> Out<W> {
     pub fn to(writer: W) -> Out<W>
         ensures none { ¬ (HasFailed result) }
         ensures to { out_writer result ≡ writer }
+        ensures begun { result.at ≡ 0 }
     {
         Out {
             writer,
