@@ -6,7 +6,7 @@ ghost use Rattle.std.specs.Prelude.{◌≡◌, ◌+◌, ◌≤◌};
 ghost use Rattle.budget.specs.Made.{no_budget, drawn_of, delays_of, powers_of, total_of, budget_of};
 
 use board::Board;
-use curve::{Curve, Microwatts, Ticks, no_powers, no_ticks};
+use curve::{Curve, Microwatts, Ticks};
 
 // The power of all parts together, in microwatts.
 #[derive(Clone, Copy, PartialEq, Eq, PartialOrd, Ord)]
@@ -26,13 +26,12 @@ pub struct Budget {
 pub fn no_budget() -> Budget
     ensures { result ≡ no_budget }
 {
-    let none = no_ticks();
-    let power = no_powers();
+    let none = [Ticks(0); 64];
     Budget {
         start: none,
         delay: none,
         end: none,
-        power: power,
+        power: [Microwatts(0); 64],
         total: Total(0),
     }
 }
@@ -57,7 +56,7 @@ fn delays(n: usize, start: [Ticks; 64], end: [Ticks; 64]) -> [Ticks; 64]
     requires { n ≤ 64 }
     ensures { result ≡ delays_of n start end }
 {
-    let mut d = no_ticks();
+    let mut d = [Ticks(0); 64];
     for k in 0..n {
         d[k] = end[k].less(start[k]);
     }
@@ -69,7 +68,7 @@ fn powers(b: Board, delay: [Ticks; 64]) -> [Microwatts; 64]
     ensures { result ≡ powers_of b delay }
 {
     let n = b.parts.min(64);
-    let mut w = no_powers();
+    let mut w = [Microwatts(0); 64];
     for k in 0..n {
         let c = b.curve[k];
         w[k] = power_of(c, delay[k]);

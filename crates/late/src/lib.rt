@@ -7,14 +7,14 @@ ghost use Rattle.times.specs.Times.{Loopless};
 ghost use Rattle.late.specs.Late.{left_of, LatestEndsOf};
 
 use board::Board;
-use curve::{Ticks, no_ticks};
+use curve::Ticks;
 
 // What is left of the deadline at each of the first `n` parts.
 fn left(due: Ticks, s: &[Ticks; 64], n: usize) -> [Ticks; 64]
     requires { n ≤ 64 }
     ensures { result ≡ left_of due.0 s.now n }
 {
-    let mut e = no_ticks();
+    let mut e = [Ticks(0); 64];
     for k in 0..n {
         e[k] = due.less(s[k]);
     }

@@ -1,4 +1,4 @@
--- What the loop keeps, and its measure.
+-- What the loop keeps.
 use Rattle.std.proofs.Common.{◌≡◌}
 use Rattle.std.specs.Prelude.{None}
 use Rattle.cone.specs.Sweeps.{loop_up_to}

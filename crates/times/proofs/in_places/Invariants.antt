@@ -1,4 +1,4 @@
--- What the loop keeps, and its measure.
+-- What the loop keeps.
 use Rattle.times.specs.Rounds.{InPlaces}
 use Rattle.times.proofs.in_places.Given as goal
 

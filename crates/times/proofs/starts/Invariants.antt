@@ -1,4 +1,4 @@
--- What the loop keeps, and its measure.
+-- What the loop keeps.
 use Rattle.times.specs.Rounds.{starts_of}
 use mathlib.Core.Path.{◌≡◌}
 use Rattle.times.proofs.starts.Given as goal

@@ -3,17 +3,16 @@
 use Rattle.std.proofs.Common.{◌≤◌}
 use Rattle.curve.proofs.Ways.{room_of, slowed_none, slowed_more, below_fastest, past_slowest, on_curve}
 use Rattle.curve.proofs.Orders.{lt_from, le_from_not_lt}
-use borrow.Author.Rules.{rules}
 use Rattle.curve.proofs.Curve.power_at.Goals as goal
 
 pub returns-then-lt : goal.returns-then-lt
 returns-then-lt c = search (below_fastest, lt_from)
 
 pub loop-k-init : goal.loop-k-init
-loop-k-init c = (search rules, slowed_none _ _)
+loop-k-init c = slowed_none _ _
 
 pub loop-k-preserved : goal.loop-k-preserved
-loop-k-preserved c = (search rules, search (slowed_more))
+loop-k-preserved c = search (slowed_more)
 
 pub returns-then-slowing-gt0 : goal.returns-then-slowing-gt0
 returns-then-slowing-gt0 c =
