@@ -3,6 +3,7 @@
 use Rattle.std.specs.Prelude.{◌≡◌, ℕ, IsOkAnd}
 use Rattle.std.specs.Int.Count.{ones}
 use Rattle.refusal.specs.Refusal.{Answer}
+use Rattle.board.specs.declared.Board.{Board}
 use Rattle.cone.specs.Cone.{Upstream, Downstream}
 use Rattle.kin.specs.declared.Kin.{Kin}
 use Rattle.kin.specs.Critical.{Critical}
@@ -23,11 +24,15 @@ pub record ConeGiven (C : ℕ → Type 0) (cone : Marked) : Type 0 where
   pub set : C cone.set
   pub count : cone.count ≡ ones cone.set
 
+-- a cone of the board that is held
+abbrev pub ConeSaid : (Board → ℕ → Type 0) → Desk → ℕ → Answer Marked → Type 0
+ConeSaid C d p r = Said (part_tried d p) d (λ held r. IsOkAnd r (ConeGiven (C held.board))) r
+
 unfoldable pub UpstreamSaid : Desk → ℕ → Answer Marked → Type 0
-UpstreamSaid d p r = Said (part_tried d p) d (λ held r. IsOkAnd r (ConeGiven (Upstream held.board p))) r
+UpstreamSaid d p r = ConeSaid (λ b. Upstream b p) d p r
 
 unfoldable pub DownstreamSaid : Desk → ℕ → Answer Marked → Type 0
-DownstreamSaid d p r = Said (part_tried d p) d (λ held r. IsOkAnd r (ConeGiven (Downstream held.board p))) r
+DownstreamSaid d p r = ConeSaid (λ b. Downstream b p) d p r
 
 -- ---- "Parent and child sets (document 002)"
 -- a link that is critical in the held budget leads from part p to part q

@@ -5,11 +5,11 @@ ghost use Rattle.std.specs.Prelude.{◌≡◌};
 ghost use Rattle.curve.specs.Curve.{Good};
 ghost use Rattle.curve.specs.Answers.{power_at_of};
 ghost use Rattle.questions.specs.Tried.{part_tried};
-ghost use Rattle.questions.specs.Sets.{counted_of, UpstreamSaid, DownstreamSaid, FamilySaid};
+ghost use Rattle.questions.specs.Sets.{counted_of, ConeSaid, UpstreamSaid, DownstreamSaid, FamilySaid};
 ghost use Rattle.questions.specs.Links.{LinkSaid};
 ghost use Rattle.questions.specs.Numbers.{PowerSaid, PartSaid, whole_asked};
 
-use board::Rule;
+use board::{Board, Rule};
 use budget::Total;
 use curve::{Curve, Microwatts, Ticks};
 use desk::{Desk, Held};
@@ -80,19 +80,25 @@ fn counted(set: u64) -> Marked
     }
 }
 
-// Kept: (d) with `?` each of the two cones is two lines; one function over the cone would be as long, and its closure needs a contract besides.
+// A cone of a part, of the board that is held.
+fn cone<F: FnOnce(Board) -> u64>(d: Desk, part: usize, cone_in: F) -> Answer<Marked>
+    requires { F.IsAlwaysCallable cone_in }
+    ensures { ConeSaid (F.post cone_in) d part result }
+{
+    let held = part_tried(d, part)?;
+    Ok(counted(cone_in(held.board)))
+}
+
 pub fn upstream(d: Desk, part: usize) -> Answer<Marked>
     ensures { UpstreamSaid d part result }
 {
-    let held = part_tried(d, part)?;
-    Ok(counted(cone::upstream(held.board, part)))
+    cone(d, part, |b| cone::upstream(b, part))
 }
 
 pub fn downstream(d: Desk, part: usize) -> Answer<Marked>
     ensures { DownstreamSaid d part result }
 {
-    let held = part_tried(d, part)?;
-    Ok(counted(cone::downstream(held.board, part)))
+    cone(d, part, |b| cone::downstream(b, part))
 }
 
 // Parent and child sets, by the links that are critical in the held budget.
@@ -111,10 +117,10 @@ pub fn family(d: Desk, part: usize) -> Answer<FamilyHeld>
 fn power_on(c: Curve, delay: usize) -> Answer<Microwatts>
     ensures { Good c → result ≡ power_at_of c delay }
 {
-    if 4294967295 < delay {
+    let Ok(ticks) = u32::try_from(delay) else {
         return Err(Why::OffCurve.at(delay));
-    }
-    c.power_at(Ticks(delay as u32))
+    };
+    c.power_at(Ticks(ticks))
 }
 
 // The power of a part at a delay: 11, 17, 19. No board that a load gave has a part 64.

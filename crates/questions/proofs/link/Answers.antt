@@ -1,8 +1,10 @@
-use Rattle.questions.proofs.Answering.{link_refused, link_past, link_wide, link_there}
+use Rattle.questions.specs.Links.{LinkSaid}
+use Rattle.questions.proofs.Answering.{turned, link_past, link_wide, link_there}
 use Rattle.questions.proofs.link.Goals as goal
 
 pub returns-in_err-held : goal.returns-in_err-held
-returns-in_err-held c = search (link_refused, c.in_err-held.ensures)
+unfolding LinkSaid
+returns-in_err-held c = search (turned, c.in_err-held.ensures)
 
 pub returns-then-b-index : goal.returns-then-b-index
 returns-then-b-index c = search (link_past, c.in_ok-held.ensures)

@@ -1,8 +1,8 @@
-use Rattle.questions.proofs.Answering.{upstream_none, upstream_given}
+use borrow.Author.Rules.{rules}
+use Rattle.questions.specs.Sets.{UpstreamSaid}
+use Rattle.questions.proofs.Answering.{cone_formed}
 use Rattle.questions.proofs.upstream.Goals as goal
 
-pub returns-in_err-held : goal.returns-in_err-held
-returns-in_err-held c = search (upstream_none, c.in_err-held.ensures)
-
 pub returns : goal.returns
-returns c = search (upstream_given, c.in_ok-held.ensures)
+unfolding UpstreamSaid
+returns c = cone_formed _ _ _ _ _ (λ b s post w. search rules) c.cone.ensures
