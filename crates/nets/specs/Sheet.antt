@@ -1,6 +1,6 @@
 -- The two sheets, net and work, as the network, times and loads that they hold, and one arc as both say it.
 -- Assumes nothing.
-use Rattle.std.specs.Prelude.{ℕ, ◌+◌, ◌≤◌, ◌<◌}
+use Rattle.std.specs.Prelude.{replicate, ℕ, ◌+◌, ◌≤◌, ◌<◌}
 use Rattle.theory.specs.Sum.{cells}
 use Rattle.nets.specs.declared.Net.{Net}
 use Rattle.nets.specs.declared.Work.{Work}
@@ -8,6 +8,23 @@ use Rattle.nets.specs.declared.Arc.{Arc}
 use Rattle.nets.specs.Network.{Network, net_of, gain_of, Sound, Bends, Curved}
 use Rattle.nets.specs.Crash.{Wide, Good}
 use Rattle.nets.specs.Label.{arc_of}
+
+-- ---- with nothing on them
+abbrev pub no_net : Net
+no_net = record {
+  tail = replicate 448 0;
+  head = replicate 448 0;
+  base = replicate 448 0;
+  length = replicate 256 0;
+  saving = replicate 256 0;
+  late = replicate 130 0;
+  arcs = 0;
+  parts = 0;
+  due = 0;
+}
+
+abbrev pub no_work : Work
+no_work = record { time = replicate 130 0; load = replicate 448 0; rank = replicate 130 0; via = replicate 130 0; room = replicate 130 0 }
 
 -- ---- the net
 -- the network that the sheet holds

@@ -2,6 +2,9 @@
 // specs and proofs; there is next to no code here.
 #![tactic(auto)]
 
+ghost use Rattle.std.specs.Prelude.{◌≡◌};
+ghost use Rattle.nets.specs.Sheet.{no_net, no_work};
+
 // The net: laid once, read by all. There is room for 448 arcs, for four runs to each of 64 of them, and for times of the 130 nodes, to begin with.
 #[derive(Drop)]
 pub struct Net {
@@ -20,7 +23,9 @@ pub struct Net {
 
 impl Net {
     // No arcs.
-    pub fn empty() -> Net {
+    pub fn empty() -> Net
+        ensures { result ≡ no_net }
+    {
         Net {
             tail: [0; 448],
             head: [0; 448],
@@ -47,7 +52,9 @@ pub struct Work {
 
 impl Work {
     // Room to work in.
-    pub fn empty() -> Work {
+    pub fn empty() -> Work
+        ensures { result ≡ no_work }
+    {
         Work {
             time: [0; 130],
             load: [0; 448],

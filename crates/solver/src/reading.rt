@@ -8,7 +8,7 @@ ghost use Rattle.solver.specs.Reading.{nodes_from, Budgeted, FlowIn};
 
 use board::Board;
 use budget::Budget;
-use curve::{Ticks, no_ticks};
+use curve::Ticks;
 
 // The times of `n` nodes from node `first` on.
 fn nodes_from(time: &[u32; 130], first: usize, n: usize) -> [Ticks; 64]
@@ -16,7 +16,7 @@ fn nodes_from(time: &[u32; 130], first: usize, n: usize) -> [Ticks; 64]
     requires n_bound { n ≤ 64 }
     ensures { result ≡ nodes_from time.now first n }
 {
-    let mut times = no_ticks();
+    let mut times = [Ticks(0); 64];
     for k in 0..n {
         times[k] = Ticks(time[first + k]);
     }

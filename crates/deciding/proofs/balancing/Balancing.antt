@@ -107,9 +107,6 @@ module _ (net : Net) (x : List ℕ) where
           ((weigh_able o h k).enough g.between g.head);
     }
 
-    pub weigh_ends : a ≤ net.arcs → net.arcs ≤ a → WeighedIn net x s true
-    weigh_ends l h = let e : a ≡ net.arcs = omega arith in record { yes = λ z. rw e at f; no = λ z. no_one z }
-
   pub weigh_large : (s : List ℕ) (a : ℕ) → a < net.arcs → 64000 < cells x a → WeighedIn net x s false
   unfolding SheetIn
   weigh_large s a h k = record { yes = λ z. no_one (sym z); no = λ z t. omega (arith, t.small a h) }

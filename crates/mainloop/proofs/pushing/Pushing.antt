@@ -1,45 +1,18 @@
 -- Pushes in the sheets: one arc of the way, and the whole of it. The way is never named: ranks fall along it, so no arc of it is met twice.
 -- Assumes nothing.
-use mathlib.Core.Path.{◌≡◌, refl, ◌∙◌}
-use Prim.Native.Nat.{ℕ, ◌+◌, ◌-◌, ◌≤◌, ◌<◌}
+use mathlib.Core.Path.{◌≡◌, ◌∙◌}
+use Prim.Native.Nat.{ℕ, ◌<◌}
 use native.Mathlib.Omega.{arith}
 use native.Mathlib.Decide.{ℕ_discrete}
-use lib.ListN.{length, set}
 use Rattle.theory.specs.Sum.{cells}
 use Rattle.nets.specs.declared.Net.{Net}
 use Rattle.nets.specs.declared.Work.{Work}
 use Rattle.nets.specs.Sheet.{net_in}
 use Rattle.nets.specs.Label.{Labels}
 use Rattle.mainloop.specs.Labelling.{LabelsIn}
-use Rattle.mainloop.specs.Pushing.{Loading, CarriableIn, CarriesIn, PushableIn, CarriedIn, PushedIn}
+use Rattle.mainloop.specs.Pushing.{Loading, CarriableIn, CarriesIn, PushableIn, CarriedIn}
 use Rattle.mainloop.proofs.Places.{nodes, here}
-use Rattle.nets.proofs.Steps.{put_cell, carry_begins, carry_arc, carry_load, carry_covers, carry_on, carry_back}
-
--- ---- the ways of `carry`
-module _ (net : Net) (w : Work) (v d : ℕ) (c : CarriableIn net w v d) (long : length w.load ≡ 448) where
-  abbrev a : ℕ
-  a = cells w.via v
-
-  pub carries_on : cells net.tail a ≡ v → CarriesIn net w v d (record w { load = set w.load a (cells w.load a + d) }) (cells net.head a)
-  carries_on e = record {
-    on = λ z. refl;
-    on_load = λ z. put_cell 448 w.load a (cells w.load a + d) long c.here.arc_in;
-    back = λ z. absurd (z e);
-    back_load = λ z. absurd (z e);
-    only = record { time = refl; via = refl };
-  }
-
-  pub carries_back : (cells net.tail a ≡ v → ⊥) → CarriesIn net w v d (record w { load = set w.load a (cells w.load a - d) }) (cells net.tail a)
-  carries_back e = record {
-    on = λ z. absurd (e z);
-    on_load = λ z. absurd (e z);
-    back = λ z. refl;
-    back_load = λ z. put_cell 448 w.load a (cells w.load a - d) long c.here.arc_in;
-    only = record { time = refl; via = refl };
-  }
-
-  pub carries_less : (cells net.tail a ≡ v → ⊥) → d ≤ cells w.load a
-  carries_less e = c.covers e
+use Rattle.nets.proofs.Steps.{carry_arc, carry_load, carry_covers, carry_on, carry_back}
 
 -- ---- the loop of `push`
 module _ (net : Net) (w : Work) (p : PushableIn net w) where
@@ -51,16 +24,7 @@ module _ (net : Net) (w : Work) (p : PushableIn net w) where
     some : 0 < d
     some = omega (arith, p.source)
 
-    pub push_begins : CarriedIn net w d w 128
-    push_begins = record {
-      carried = carry_begins (net_in net) _ _ _ _ _ p.count labels (nodes net w p.ready) d some p.ready.good.flows (omega arith);
-      only = record { time = refl; via = refl };
-    }
-
     module _ (w' : Work) (v : ℕ) (s : CarriedIn net w d w' v) where
-      pub push_ends : v ≡ 129 → PushedIn net w w'
-      push_ends e = record { pushed = rw (e, is) at s }
-
       module _ (n : v ≡ 129 → ⊥) where
         b : ℕ
         b = cells w.via v

@@ -1,6 +1,6 @@
 -- `balancing::weigh` meets its contract.
 -- Assumes nothing.
-use Rattle.deciding.proofs.balancing.Balancing.{weigh_able, weigh_more, weigh_large, weigh_ends}
+use Rattle.deciding.proofs.balancing.Balancing.{weigh_able, weigh_more, weigh_large}
 use Rattle.deciding.proofs.balancing.weigh.Goals as goal
 
 pub carry-requires : goal.carry-requires
@@ -11,6 +11,3 @@ returns-then-load-a-gt64000 c = search (weigh_large)
 
 pub loop-a-preserved : goal.loop-a-preserved
 loop-a-preserved c = search (weigh_more)
-
-pub returns : goal.returns
-returns c = search (weigh_ends)
