@@ -37,10 +37,7 @@ pub struct SessionEnd {
 pub fn session(file: &[u8], first: &[u8], second: &[u8]) -> SessionEnd
     ensures { SessionSaid file.now first.now second.now result }
 {
-    let mut t = Tally {
-        taken: 0,
-        refused: 0,
-    };
+    let mut t = Tally::NONE;
     let l = load(desk::empty(), RULE_A, file, &mut t);
     let a = order(l.desk, first, &mut t);
     let b = order(a.desk, second, &mut t);
