@@ -37,7 +37,10 @@ pub record TurnedIn (net turned : Net) : Type 0 where
   pub base : turned.base ≡ net.base
   pub length : turned.length ≡ net.length
   pub saving : turned.saving ≡ net.saving
+  pub late : turned.late ≡ net.late
   pub arcs : turned.arcs ≡ net.arcs
+  pub parts : turned.parts ≡ net.parts
+  pub due : turned.due ≡ net.due
 
 -- the verdict on the loads of w by the net turned round
 pub record LastIn (net : Net) (due : ℕ) (w w' : Work) (r : Bool) : Type 0 where
