@@ -3,7 +3,7 @@
 // greatest.
 #![tactic(auto)]
 
-ghost use Rattle.std.specs.Prelude.{◌≡◌, ◌+◌, ◌*◌, ◌-◌, ◌<◌, min, leb};
+ghost use Rattle.std.specs.Prelude.{◌≡◌, ◌+◌, ◌*◌, ◌-◌, ◌<◌, min, eqb, leb};
 ghost use Rattle.base.specs.Decides.{Decides};
 ghost use Rattle.base.specs.Table.{table};
 ghost use Rattle.curve.specs.Curve.{slowest_of, savings_of, Good};
@@ -79,6 +79,13 @@ impl Ticks {
         ensures { result.0 ≡ self.0 - other.0 }
     {
         Ticks(self.0.saturating_sub(other.0))
+    }
+
+    // Whether these ticks and more are as many as others. The difference is compared, so no sum can pass its type.
+    pub fn reach(self, more: Ticks, other: Ticks) -> bool
+        ensures { result ≡ eqb (self.0 + more.0) other.0 }
+    {
+        self.0 <= other.0 && other.0 - self.0 == more.0
     }
 }
 

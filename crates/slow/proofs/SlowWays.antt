@@ -4,7 +4,7 @@ use mathlib.Core.Path.{◌≡◌, refl, ◌∙◌}
 use mathlib.Core.List.{List}
 use Prim.Native.Nat.{ℕ, min, ◌≤◌, ◌<◌}
 use native.Mathlib.Omega.{arith}
-use Rattle.std.specs.Prelude.{Some, None}
+use Rattle.std.specs.Prelude.{Option, Some, None, length, take}
 use Rattle.theory.specs.Budget.{Timed}
 use Rattle.curve.specs.declared.Ticks.{Ticks}
 use Rattle.curve.specs.Rows.{ticks_at}
@@ -17,7 +17,7 @@ use Rattle.times.proofs.TimesLaws.{fastest_timed}
 use Rattle.slow.specs.declared.Trail.{Trail}
 use Rattle.slow.specs.Slow.{LastPart, FastestEnds, shown, SlowOf, kept, exceeded}
 use Rattle.slow.specs.Walk.{last_of, backs_of, trail_of, walk_of}
-use Rattle.slow.proofs.Ways.{last_below}
+use Rattle.slow.proofs.Ways.{last_below, backs_held, places_held}
 use Rattle.slow.proofs.Earlier.{earlier_lt}
 use Rattle.slow.proofs.Steps.{last_is}
 use Rattle.slow.proofs.WalkLaws.{walks}
@@ -47,9 +47,9 @@ module _ (b : Board) (ok : Loopless b) (d : List Ticks) (isd : d ≡ fastests_of
   unfolding view
   keeps a isa h = kept (record { end = ticks_at t.end; ends = ends; within = λ p k. omega (arith, last_part.greatest p k) }) refl
 
-  exceeds : (a : Ticks) → a.0 ≡ usable b → a.0 < ticks_at t.end last → (back : List ℕ)
+  exceeds : (a : Ticks) → a.0 ≡ usable b → a.0 < ticks_at t.end last → (back : List (Option ℕ))
       → (InPlaces b.link b.links → back ≡ backs_of b.link t.start t.end b.links)
-      → (trail : Trail) → trail ≡ walk_of b.parts back last
+      → (trail : Trail) → trail ≡ walk_of b.parts back (Some last)
       → SlowOf b (Some (record { ticks = ticks_at t.end last; path = trail }))
   unfolding shown view
   exceeds a isa h back isb trail walk =
@@ -68,10 +68,13 @@ module _ (b : Board) (n : ℕ) (cut : n ≡ min b.parts 64) (d : List Ticks) (is
   pub in_time : ticks_at t.end last ≤ a.0 → Loopless b → SlowOf b None
   in_time h ok = keeps b ok d isd t (times ok) last (rw (parts_are ok) at isl) a isa h
 
-  pub too_slow : a.0 < ticks_at t.end last → (m : ℕ) → m ≡ min b.links 256 → (back : List ℕ)
-      → (InPlaces b.link m → back ≡ backs_of b.link t.start t.end m)
-      → (trail : Trail) → trail ≡ walk_of n back last → Loopless b
+  pub too_slow : a.0 < ticks_at t.end last → (m : ℕ) → m ≡ min b.links 256 → length b.link ≡ 256 → (back : List (Option ℕ))
+      → (InPlaces (take m b.link) (length (take m b.link)) → back ≡ backs_of (take m b.link) t.start t.end (length (take m b.link)))
+      → (trail : Trail) → trail ≡ walk_of n back (Some last) → Loopless b
       → SlowOf b (Some (record { ticks = ticks_at t.end last; path = trail }))
-  too_slow h m cut' back isb trail walk ok =
+  too_slow h m cut' long back by trail walk ok =
       let links_are : m ≡ b.links = omega (arith, ok.formed.links_to) in
+      let room : m ≤ length b.link = omega arith in
+      let isb : InPlaces b.link m → back ≡ backs_of b.link t.start t.end m =
+      λ places. by (places_held b.link m room t.start t.end places) ∙ backs_held b.link m room t.start t.end in
       exceeds b ok d isd t (times ok) last (rw (parts_are ok) at isl) a isa h back (rw links_are at isb) trail (rw (parts_are ok) at walk)

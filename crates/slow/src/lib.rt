@@ -1,13 +1,12 @@
 // Whether all parts at their fastest keep the usable deadline, and the path to be shown where they do not.
 #![tactic(auto)]
 
-ghost use Rattle.std.specs.Prelude.{◌≡◌, ◌+◌, ◌≤◌, [], eqb, ltb};
+ghost use Rattle.std.specs.Prelude.{◌≡◌, ◌≤◌, [], ltb, length};
 ghost use Rattle.base.specs.Pick.{pick};
-ghost use Rattle.base.specs.Table.{table};
 ghost use Rattle.times.specs.Times.{Loopless};
 ghost use Rattle.times.specs.Rounds.{InPlaces};
 ghost use Rattle.slow.specs.Slow.{SlowOf};
-ghost use Rattle.slow.specs.Walk.{last_of, backs_of, pushed_of, walk_of, trail_of};
+ghost use Rattle.slow.specs.Walk.{last_of, backs_of, lower_of, pushed_of, walk_of, trail_of};
 
 use board::{Board, Link, link_delay, usable_deadline};
 use curve::Ticks;
@@ -53,10 +52,14 @@ impl Trail {
     }
 }
 
-fn all(value: usize) -> [usize; 64]
-    ensures { result ≡ table 64 (λ p. value) }
+// The lower of the parts found so far, if any, and one more.
+fn lower(found: Option<usize>, part: usize) -> Option<usize>
+    ensures { result ≡ lower_of found part }
 {
-    [value; 64]
+    match found {
+        Some(p) => Some(p.min(part)),
+        None => Some(part),
+    }
 }
 
 // Of two parts, which end at `first` and `second`, the one that ends later, or the first.
@@ -78,44 +81,33 @@ fn last_part(e: [Ticks; 64], n: usize) -> usize
     last
 }
 
-// A part that a start waits for, or 64 where it does not. The difference is compared with the link's ticks, so no sum can pass its type.
-fn awaited(part: usize, end: Ticks, delay: Ticks, start: Ticks) -> usize
-    ensures { result ≡ pick (eqb (end.0 + delay.0) start.0) part 64 }
+// For each part the lowest-numbered one linked to it that arrives at its start, where there is one. A part's number is below 64, and the remainder
+// keeps any other there.
+fn backs(link: &[Link], s: &[Ticks; 64], e: &[Ticks; 64]) -> [Option<usize>; 64]
+    ensures { InPlaces link.now (length link.now) → result ≡ backs_of link.now s.now e.now (length link.now) }
 {
-    if start.0 < end.0 {
-        return 64;
-    }
-    if start.0 - end.0 == delay.0 { part } else { 64 }
-}
-
-// For each part the lowest-numbered one linked to it that arrives at its start, or 64 where there is none. A part's number is below 64, and the
-// remainder keeps any other there.
-fn backs(link: [Link; 256], n: usize, s: [Ticks; 64], e: [Ticks; 64]) -> [usize; 64]
-    requires { n ≤ 256 }
-    ensures { InPlaces link n → result ≡ backs_of link s e n }
-{
-    let mut back = all(64);
-    for k in 0..n {
-        let l = link[k];
+    let mut back = [None; 64];
+    for l in link {
         let f = l.from % 64;
         let t = l.to % 64;
-        back[t] = back[t].min(awaited(f, e[f], link_delay(l), s[t]));
+        if e[f].reach(link_delay(*l), s[t]) {
+            back[t] = lower(back[t], f);
+        }
     }
     back
 }
 
-// The path to part `at`, back over the parts before it, with at most `left` parts left to visit; 64 is no part.
-fn walk(back: [usize; 64], at: usize, left: usize) -> Trail
-    ensures { result ≡ walk_of left back at }
+// The path to a part, back over the parts before it, with at most `left` parts left to visit.
+fn walk(back: &[Option<usize>; 64], at: Option<usize>, left: usize) -> Trail
+    ensures { result ≡ walk_of left back.now at }
 {
-    if left == 0 {
+    let Some(part) = at else {
+        return Trail::empty();
+    };
+    if left == 0 || 64 <= part {
         return Trail::empty();
     }
-    if 64 <= at {
-        return Trail::empty();
-    }
-    let before = walk(back, back[at], left - 1);
-    before.pushed(at)
+    walk(back, back[part], left - 1).pushed(part)
 }
 
 // Refusal 10: the path that is shown where one is too slow at its fastest.
@@ -131,7 +123,8 @@ pub fn slow_path(b: Board) -> Option<ShownPath>
     if ticks <= limit.0 {
         return None;
     }
-    let back = backs(b.link, b.links.min(256), t.start, e);
-    let path = walk(back, last, parts);
+    let links = b.links.min(256);
+    let back = backs(&b.link[..links], &t.start, &e);
+    let path = walk(&back, Some(last), parts);
     Some(ShownPath { ticks, path })
 }
