@@ -50,22 +50,25 @@ impl From<Refusal> for Unsolved {
     }
 }
 
-// What may be known of a board before it is solved, any numbers at all: loads of its arcs, and times of the nodes, of parts' starts and ends, source
-// and sink. Where the sink has none, all parts at their slowest are begun from. Loads that are ready are judged as they are, with no advice sought: so
+// What may be known of a board before it is solved, any numbers at all. Known: loads of its arcs to begin at, and times of the nodes, of parts' starts and
+// ends, source and sink; without times all parts at their slowest are begun from. Ready: loads that are judged as they are, with no advice sought: so
 // trials reach the verdict and the main loop.
 #[derive(Clone, Copy)]
-pub struct Advice {
-    pub loads: [u32; 448],
-    pub times: [u32; 130],
-    pub ready: bool,
+pub enum Advice {
+    Known {
+        loads: [u32; 448],
+        times: Option<[u32; 130]>,
+    },
+    Ready {
+        loads: [u32; 448],
+    },
 }
 
 // Nothing known.
 pub fn no_advice() -> Advice {
-    Advice {
+    Advice::Known {
         loads: [0; 448],
-        times: [0; 130],
-        ready: false,
+        times: None,
     }
 }
 
