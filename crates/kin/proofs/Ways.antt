@@ -3,15 +3,13 @@
 use mathlib.Core.Path.{◌≡◌, refl, sym, ◌∙◌}
 use mathlib.Core.Bool.{Bool, true, false}
 use mathlib.Core.List.{List}
-use Prim.Native.Nat.{ℕ, ◌+◌, ◌-◌, ◌≤◌, ◌<◌, min}
-use native.Mathlib.Omega.{arith}
+use Prim.Native.Nat.{ℕ, ◌+◌, ◌≤◌, ◌<◌, min}
 use native.Mathlib.Numerals.{add-one}
 use lib.Dec.{eqb}
 use lib.ListN.{get_or, replicate}
-use borrow.Author.Tests.{lt-ltb, le-ltb, eq-eqb, ne_eqb}
-use mathlib.Core.Logic.{⊎_elim}
+use borrow.Author.Tests.{lt-ltb, le-ltb}
 use Rattle.base.specs.Pick.{pick}
-use Rattle.base.proofs.Cases.{finished, eq_or_ne}
+use Rattle.base.proofs.Cases.{finished}
 use Rattle.curve.specs.declared.Ticks.{Ticks}
 use Rattle.curve.specs.Rows.{ticks_at}
 use Rattle.marks.specs.Marks.{has_of, union_of}
@@ -25,14 +23,6 @@ use Rattle.marks.specs.Rows.{no_rows, with_mark, marks_up_to}
 use Rattle.kin.specs.Steps.{rows_up_to, joined_of, gathered_up_to, gathered_of}
 
 -- ---- `critical`
--- a difference is what is to be added
-eqb_less : (e s w : ℕ) → e ≤ s → eqb (s - e) w ≡ eqb (e + w) s
-eqb_less e s w h =
-    ⊎_elim
-    (λ is. eq-eqb (s - e) w is ∙ sym (eq-eqb (e + w) s (omega arith)))
-    (λ ne. ne_eqb (s - e) w ne ∙ sym (ne_eqb (e + w) s (λ g. ne (omega arith))))
-    (eq_or_ne (s - e) w)
-
 module _ (held : Budget) (l : Link) where
   pub from_past : 64 ≤ l.from → false ≡ criticalb held l
   unfolding criticalb pick
@@ -46,12 +36,9 @@ module _ (held : Budget) (l : Link) where
   unfolding criticalb pick
   critical_by h g = rw (lt-ltb l.from 64 h, lt-ltb l.to 64 g)
 
-  pub too_early : l.from < 64 → l.to < 64 → ticks_at held.start l.to < ticks_at held.end l.from → false ≡ criticalb held l
-  too_early h g less = sym (critical_by h g ∙ ne_eqb (ticks_at held.end l.from + delay_of l) (ticks_at held.start l.to) (λ e. omega (arith, e)))
-
-  pub compared : (w : Ticks) → l.from < 64 → l.to < 64 → ticks_at held.end l.from ≤ ticks_at held.start l.to → w.0 ≡ delay_of l
-      → eqb (ticks_at held.start l.to - ticks_at held.end l.from) w.0 ≡ criticalb held l
-  compared w h g le e = rw e (eqb_less (ticks_at held.end l.from) (ticks_at held.start l.to) (delay_of l) le ∙ sym (critical_by h g))
+  pub compared : (w : Ticks) (t : Bool) → l.from < 64 → l.to < 64 → w.0 ≡ delay_of l
+      → t ≡ eqb (ticks_at held.end l.from + w.0) (ticks_at held.start l.to) → t ≡ criticalb held l
+  compared w t h g e is = is ∙ rw e (sym (critical_by h g))
 
 -- ---- `link_is_critical`
 module _ (b : Board) (held : Budget) (n l : ℕ) (links : n ≡ min b.links 256) where

@@ -6,7 +6,7 @@ ghost use Rattle.kin.specs.Critical.{criticalb, critical_at, Critical, CriticalR
 ghost use Rattle.kin.specs.Kin.{KinOf};
 ghost use Rattle.kin.specs.Steps.{joined_of, gathered_of, Led, Grown};
 
-use board::{Board, Link};
+use board::{Board, Link, link_delay};
 use budget::Budget;
 
 // The critical links as marks: bit q of `down[p]` and bit p of `up[q]` where one leads from p to q.
@@ -22,7 +22,7 @@ pub struct Kin {
     pub children: u64,
 }
 
-// Whether a link is critical. The difference is compared with the link's ticks, so no sum can overflow.
+// Whether a link is critical.
 fn critical(held: &Budget, l: Link) -> bool
     ensures { result ≡ criticalb held.now l }
 {
@@ -36,11 +36,7 @@ fn critical(held: &Budget, l: Link) -> bool
     }
     let e = held.end[p];
     let s = held.start[q];
-    if s.0 < e.0 {
-        return false;
-    }
-    let delay = board::link_delay(l);
-    s.0 - e.0 == delay.0
+    e.reach(link_delay(l), s)
 }
 
 // Whether link l of the board is critical; false where the board has no link l.
@@ -102,10 +98,7 @@ fn child_step(t: Rows, parents: u64, children: u64) -> Kin
     let rows = t.down;
     let next = gathered(rows, parents, children);
     if next == children {
-        return Kin {
-            parents: parents,
-            children: children,
-        };
+        return Kin { parents, children };
     }
     parent_step(t, parents, next)
 }
@@ -118,10 +111,7 @@ fn parent_step(t: Rows, parents: u64, children: u64) -> Kin
     let rows = t.up;
     let next = gathered(rows, children, parents);
     if next == parents {
-        return Kin {
-            parents: parents,
-            children: children,
-        };
+        return Kin { parents, children };
     }
     child_step(t, next, children)
 }
