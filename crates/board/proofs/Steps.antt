@@ -61,18 +61,10 @@ module _ (b : Board) (k : ℕ) where
 pub link_before : (links : List Link) (k : ℕ) → get_or links k no_link ≡ get_or links (k + 1 - 1) no_link
 link_before links k = let one : k ≡ k + 1 - 1 = omega arith in ap (λ (l : ℕ). get_or links l no_link) one
 
-pub no_link_lem : (x : Link) → x ≡ plain_link 0 0 → replicate 256 x ≡ blank_links
-unfolding blank_links
-no_link_lem x is = ap (replicate 256) is
-
-pub all_blank : (c : Curve) → c ≡ blank_curve → replicate 64 c ≡ blank_curves
-unfolding blank_curves
-all_blank c is = ap (replicate 64) is
-
-pub emptied : (d : Ticks) (n : ℕ) (curves : List Curve) (links : List Link) → curves ≡ blank_curves → links ≡ blank_links
-    → record { rule = A; deadline = d; parts = n; curve = curves; links = 0; link = links } ≡ empty_of d n
-unfolding empty_of
-emptied d n curves links blank none = rw (blank, none)
+pub emptied : (d : Ticks) (n : ℕ) (curve : Curve) (link : Link) → curve ≡ blank_curve → link ≡ plain_link 0 0
+    → record { rule = A; deadline = d; parts = n; curve = replicate 64 curve; links = 0; link = replicate 256 link } ≡ empty_of d n
+unfolding empty_of blank_curves blank_links
+emptied d n curve link blank none = rw (blank, none)
 
 -- the last way through `link_held`
 pub in_order : (parts l : ℕ) (before x : Link) (r : Bool) → x.from < parts → x.to < parts → (x.from ≡ x.to → ⊥) → x.delay.0 ≤ 0 → (l ≡ 0 → ⊥)

@@ -3,7 +3,7 @@
 
 ghost use Rattle.std.specs.Prelude.{◌≡◌, ◌<◌};
 ghost use Rattle.board.specs.Board.{plain_link, turned_link, delay_of, blank_curve, rule_number, rule_named, usable_under, usable, WellFormed};
-ghost use Rattle.board.specs.Tests.{Decides, blank_curves, blank_links, empty_of, below_of, link_held, link_good, links_test, curve_good, curves_test};
+ghost use Rattle.board.specs.Tests.{Decides, empty_of, below_of, link_held, link_good, links_test, curve_good, curves_test};
 
 use curve::{Curve, Microwatts, Ticks};
 use refusal::{Answer, Refusal, Why};
@@ -54,14 +54,6 @@ pub fn blank_curve() -> Curve
     Curve::flat(Ticks(0), Microwatts(0))
 }
 
-// All places without a part.
-fn blank_curves() -> [Curve; 64]
-    ensures { result ≡ blank_curves }
-{
-    let blank = blank_curve();
-    [blank; 64]
-}
-
 // A link without a delay.
 pub fn plain_link(from: usize, to: usize) -> Link
     ensures { result ≡ plain_link from to }
@@ -77,27 +69,17 @@ pub fn link_delay(l: Link) -> Ticks
     l.delay
 }
 
-// All places without a link.
-fn blank_links() -> [Link; 256]
-    ensures { result ≡ blank_links }
-{
-    let blank = plain_link(0, 0);
-    [blank; 256]
-}
-
 // A board to be filled: rule A, no links, and a blank curve at every part.
 pub fn empty(deadline: Ticks, parts: usize) -> Board
     ensures { result ≡ empty_of deadline parts }
 {
-    let curve = blank_curves();
-    let link = blank_links();
     Board {
         rule: Rule::A,
-        deadline: deadline,
-        parts: parts,
-        curve: curve,
+        deadline,
+        parts,
+        curve: [blank_curve(); 64],
         links: 0,
-        link: link,
+        link: [plain_link(0, 0); 256],
     }
 }
 

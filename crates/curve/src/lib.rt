@@ -5,9 +5,7 @@
 
 ghost use Rattle.std.specs.Prelude.{◌≡◌, ◌+◌, ◌*◌, ◌-◌, ◌<◌, min, eqb, leb};
 ghost use Rattle.base.specs.Decides.{Decides};
-ghost use Rattle.base.specs.Table.{table};
 ghost use Rattle.curve.specs.Curve.{slowest_of, savings_of, Good};
-ghost use Rattle.curve.specs.Rows.{no_ticks, no_power};
 ghost use Rattle.curve.specs.Answers.{flat_of, next_saving_of, last_saving_of, power_at_of, used_of};
 ghost use Rattle.curve.specs.Tests.{every, blankb, rangedb, placeb};
 
@@ -42,20 +40,6 @@ pub struct Curve {
 struct Slowing {
     left: Ticks,
     power: Microwatts,
-}
-
-// No ticks at any of the 64 places that parts may have.
-pub fn no_ticks() -> [Ticks; 64]
-    ensures { result ≡ table 64 (λ p. no_ticks) }
-{
-    [Ticks(0); 64]
-}
-
-// No power at any.
-pub fn no_powers() -> [Microwatts; 64]
-    ensures { result ≡ table 64 (λ p. no_power) }
-{
-    [Microwatts(0); 64]
 }
 
 // The power less the saving of each tick used. The product is taken wide, and a power does not fall below 0.
