@@ -6,6 +6,7 @@ use layout::laying::Work;
 use layout::numbers::{List, Node, Part, Place, SINK, SOURCE, Table};
 
 // In a hint, no arc.
+// Kept: (a) `boddivarn_advise` hands out hints in C, and the solver as `via` of a network's work, both numbers.
 const NONE: u32 = 500;
 
 #[derive(Drop)]
@@ -58,10 +59,10 @@ impl<'a> Hints<'a> {
 
     // Node v of the tree, and all that are one with it, by the arc from its parent. The deadline's arc is none of the network.
     fn offer_node(&mut self, tree: &Tree, v: Node) {
-        let tie = tree.twig[v].tie;
-        if let Some(a) = self.work.place(tie.arc) {
+        let end = tree.twig[v].end;
+        if let Some(a) = self.work.place(end.arc()) {
             let Wire { tail, head, .. } = self.given.wire(a);
-            let (above, below) = if tie.upward {
+            let (above, below) = if end.is_tail() {
                 (head, tail)
             } else {
                 (tail, head)

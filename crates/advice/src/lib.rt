@@ -8,10 +8,11 @@ mod pivoting;
 mod tree;
 mod walking;
 
-use growing::{Ground, Growth};
+use growing::Ground;
 use layout::given::Given;
 use layout::laying::Work;
 use nets::Net;
+use tree::Tree;
 
 // Advice on a network: `loads` are those to begin with (of parts and links: entries and exits are made to go with them), and then those advised. `hint`
 // is filled with numbers of arcs, each of which reaches one node more from the source and the sink on; where there are fewer, with 500, which is no arc.
@@ -20,14 +21,14 @@ pub fn advise(net: &Net, loads: &mut [u32; 448], hint: &mut [u32; 130]) {
     let given = Given::of(net);
     let mut work = Work::BLANK;
     work.lay(&given, loads);
-    let mut growth = Growth::BLANK;
+    let mut tree = Tree::BLANK;
     let ground = Ground {
         given: &given,
         work: &work,
     };
-    if growth.grow(ground) {
-        growth.tree.pivot(&mut work.arcs);
+    if tree.grow(ground) {
+        tree.pivot(&mut work.arcs);
         work.take(&given, loads);
-        hinting::take(&given, &work, &growth.tree, hint);
+        hinting::take(&given, &work, &tree, hint);
     }
 }

@@ -1,20 +1,20 @@
 // The room of the tree: from the source to every node over arcs, each at a length that is held to. The nodes stand in a ring, each before all below it.
 use layout::arcs::{Arc, Arcs, HALF};
-use layout::numbers::{ArcId, Node, SOURCE, Table};
+use layout::numbers::{End, Node, SOURCE, Table};
 
-// The arc to a node's parent, whether it leads to the parent, and its length, 2^31 up.
+// How a node hangs on its parent: the end here of the arc between them, which is its tail where it leads to the parent, and its length, 2^31 up.
 #[derive(Clone, Copy)]
 pub(crate) struct Tie {
-    pub arc: ArcId,
-    pub upward: bool,
+    pub end: End,
     pub length: u32,
 }
 
 #[derive(Clone, Copy)]
 pub(crate) struct Twig {
     pub depth: u32,
+    pub length: u32,
+    pub end: End,
     pub parent: Node,
-    pub tie: Tie,
     pub next: Node,
     pub back: Node,
 }
@@ -26,18 +26,24 @@ pub(crate) struct Tree {
     pub twig: Table<Twig, 130>,
 }
 
+impl Twig {
+    pub fn tie(&self) -> Tie {
+        Tie {
+            end: self.end,
+            length: self.length,
+        }
+    }
+}
+
 impl Tree {
     pub const BLANK: Tree = Tree {
         value: Table { rows: [0; 130] },
         twig: Table {
             rows: [Twig {
                 depth: 0,
+                length: 0,
+                end: End::FIRST,
                 parent: Node::FIRST,
-                tie: Tie {
-                    arc: ArcId::FIRST,
-                    upward: false,
-                    length: 0,
-                },
                 next: Node::FIRST,
                 back: Node::FIRST,
             }; 130],
@@ -61,15 +67,16 @@ impl Tree {
         let above = self.twig[u];
         let value = self.value[u];
         let ticks = tie.length.wrapping_sub(HALF);
-        self.value[v] = if tie.upward {
+        self.value[v] = if tie.end.is_tail() {
             value.wrapping_sub(ticks)
         } else {
             value.wrapping_add(ticks)
         };
         self.twig[v] = Twig {
             depth: above.depth.wrapping_add(1),
+            length: tie.length,
+            end: tie.end,
             parent: u,
-            tie,
             next: above.next,
             back: u,
         };
@@ -119,7 +126,7 @@ impl Tree {
                 return;
             }
             let twig = &self.twig[y];
-            arcs.change(twig.tie.arc, twig.tie.upward == upward, d);
+            arcs.change(twig.end.arc(), twig.end.is_tail() == upward, d);
             y = twig.parent;
         }
     }

@@ -129,12 +129,7 @@ impl Arcs {
             let p = Part::of(k);
             self.curve[p] = Curve {
                 fastest: given.wire(p.place()).base.wrapping_add(HALF),
-                runs: [
-                    given.run(p, 0),
-                    given.run(p, 1),
-                    given.run(p, 2),
-                    given.run(p, 3),
-                ],
+                runs: given.runs(p),
             };
         }
     }
@@ -182,7 +177,7 @@ impl Arcs {
         }
     }
 
-    // The price of arc a anew.
+    // The price of arc a anew. It is not inlined, so that `change`, which seldom needs it, is.
     #[inline(never)]
     fn reprice(&mut self, a: ArcId) {
         let mut arc = self.rows[a];

@@ -73,14 +73,18 @@ impl<'a> Given<'a> {
         }
     }
 
-    // Run k of part p.
-    pub fn run(&self, p: Part, k: usize) -> Run
-        requires { k < 4 }
-    {
-        let at = 4 * p.number() + k;
-        Run {
-            length: self.net.length[at],
-            saving: self.net.saving[at],
+    pub fn runs(&self, p: Part) -> [Run; 4] {
+        let mut runs = [Run {
+            length: 0,
+            saving: 0,
+        }; 4];
+        let first = 4 * p.number();
+        for k in 0..4 {
+            runs[k] = Run {
+                length: self.net.length[first + k],
+                saving: self.net.saving[first + k],
+            };
         }
+        runs
     }
 }

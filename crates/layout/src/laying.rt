@@ -55,6 +55,7 @@ impl Begun {
 // ---- which arcs are kept
 #[derive(Drop)]
 struct Kept {
+    // Parts, and then the other arcs that are kept.
     places: List<Place, 448>,
     // How many that are kept lead to each node, and from it.
     entering: Table<u32, 130>,
@@ -68,9 +69,11 @@ impl Kept {
         leaving: Table { rows: [0; 130] },
     };
 
-    // Of all arcs but the parts.
     fn choose(&mut self, given: &Given, begun: &Begun) {
         let twos = sparing::twos(given);
+        for p in 0..given.parts {
+            self.places.push(Part::of(p).place());
+        }
         for k in given.parts..given.arcs {
             let a = Place::of(k);
             let arc = given.wire(a);
@@ -155,17 +158,13 @@ impl Work {
         kept.choose(given, &begun);
         self.arcs.take_curves(given);
         self.nodes = 2 * given.parts + 2;
-        for a in kept.places.as_slice() {
+        for a in kept.places.as_slice().iter().skip(given.parts) {
             self.join_arc(given, &kept, *a);
-        }
-        for k in 0..given.parts {
-            let p = Part::of(k);
-            self.lay_place(given, &begun, p.place());
         }
         for a in kept.places.as_slice() {
             self.lay_place(given, &begun, *a);
         }
-        let due = 0u32.wrapping_sub(given.due());
+        let due = given.due().wrapping_neg();
         self.lay_arc(None, SINK, SOURCE, due, begun.sent);
     }
 
@@ -247,8 +246,7 @@ impl Work {
 
     pub fn take(&self, given: &Given, loads: &mut [u32; 448]) {
         for k in 0..given.arcs {
-            let a = Place::of(k);
-            loads[k] = self.load_of(a);
+            loads[k] = self.load_of(Place::of(k));
         }
     }
 }

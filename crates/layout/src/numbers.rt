@@ -1,4 +1,5 @@
 // The room of numbers: parts, nodes and arcs by numbers that are below their bound, so that no place is tested where a table is read.
+// Kept: (a) memory is fixed, so parts, nodes and arcs stand in tables, and name one another by their numbers.
 ghost use Rattle.std.specs.Prelude.{◌<◌, ◌≤◌};
 
 use std::ops::{Index, IndexMut};
@@ -79,12 +80,23 @@ impl Below<449> {
 }
 
 impl Below<898> {
+    pub const FIRST: End = Below { at: 0 };
+
     pub fn arc(self) -> ArcId {
         Below { at: self.at / 2 }
     }
 
     pub fn is_tail(self) -> bool {
         self.at % 2 == 0
+    }
+
+    // The other end of the same arc.
+    pub fn other(self) -> End {
+        if self.is_tail() {
+            self.arc().head()
+        } else {
+            self.arc().tail()
+        }
     }
 }
 
@@ -140,11 +152,6 @@ pub struct List<T, const N: usize> {
 
 pub const NO_PLACES: List<Place, 448> = List {
     rows: [Below { at: 0 }; 448],
-    count: 0,
-};
-
-pub const NO_NODES: List<Node, 130> = List {
-    rows: [Below { at: 0 }; 130],
     count: 0,
 };
 
