@@ -85,6 +85,7 @@ fn read_link(s: &[u8], parts: usize, before: Option<Link>, at: usize) -> Answer<
 }
 
 // All links.
+// Kept: (d) the loop is `read_parts`' and `fields::each_run`'s; shared, it takes a closure and a ghost function for `read_link(s, parts, before, next)?`.
 fn read_links(s: &[u8], parts: usize, links: usize, at: usize) -> Answer<Read<[Link; 256]>>
     requires { (1 ≤ parts) × (parts ≤ 64) × (links ≤ 256) }
     ensures { result ≡ links_from s.now parts links at }

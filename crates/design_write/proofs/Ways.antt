@@ -10,7 +10,7 @@ use lib.Seq.{sets-eq}
 use borrow.Author.Tests.{lt-ltb, le-ltb}
 use Rattle.base.specs.Pick.{pick}
 use Rattle.std.specs.List.{flat_map}
-use Rattle.std.specs.Prelude.{Some, None, Ok, Err}
+use Rattle.std.specs.Prelude.{Some, Ok, Err}
 use Rattle.refusal.specs.declared.Refusal.{Refusal}
 use Rattle.refusal.specs.declared.Why.TheVariants.{NoBoard, BufferShort}
 use Rattle.refusal.specs.Refusal.{Answer, refusal_at}
@@ -68,9 +68,6 @@ module _ (b : Board) (t : Bool) (test : Decides t (WellFormed b)) where
 
   pub counted : (r : ℕ) → t ≡ true → r ≡ length (file_of b) → FileCounted b (Some r)
   counted r is size = record { formed = λ w. ap Some size; none = λ no. absurd (no (test.yes is)) }
-
-  pub uncounted : t ≡ false → FileCounted b None
-  uncounted is = record { formed = λ w. absurd (never t (test.no w) is); none = λ no. refl }
 
 -- ---- writers one after the other
 pub file_filled :

@@ -10,7 +10,6 @@ use Rattle.std.specs.List.{flat_map}
 use Rattle.base.proofs.Cases.{lt_or_le}
 use Rattle.groups.specs.Number.{groups, limit, encode}
 use Rattle.groups.proofs.Forms.{limit_is, encode_none, size_le}
-use Rattle.curve.specs.declared.Run.{Run}
 use Rattle.curve.specs.declared.Curve.{Curve}
 use Rattle.curve.specs.Curve.{no_run}
 use Rattle.fields.specs.Writing.{WroteIfRoom, WroteOrNothing}
@@ -31,9 +30,6 @@ form_counted n m r same is = rw (← same) is
 
 pub form_small : (n r : ℕ) → r ≡ length (encode n) → r ≤ groups
 form_small n r is = rw is (size_le n)
-
-pub run_counted : (run : Run) (a b : ℕ) → a ≡ length (encode run.length.0) → b ≡ length (encode run.saving.0) → a + b ≡ length (run_bytes run)
-run_counted run a b long saving = omega (arith, length-append (encode run.length.0) (encode run.saving.0))
 
 -- ---- all runs
 runs_are : (c : Curve) → c.count ≤ length c.runs → runs_bytes c c.count ≡ flat_map run_bytes (take c.count c.runs)

@@ -3,12 +3,9 @@
 use mathlib.Core.Path.{◌≡◌, refl, sym, ap, ◌∙◌}
 use mathlib.Core.Logic.{⊎_elim}
 use mathlib.Core.List.{List, [], ◌∷◌, ◌++◌}
-use Prim.Native.Nat.{ℕ, zero, suc, ◌+◌, ◌*◌, ◌-◌, ◌≤◌, ◌<◌}
+use Prim.Native.Nat.{ℕ, zero, suc, ◌+◌, ◌*◌, ◌≤◌, ◌<◌}
 use native.Mathlib.Omega.{arith}
 use native.Mathlib.Nat.{add-zero}
-use native.Mathlib.Nat.{mul-le-mul_left}
-use mir.Val.{Fits}
-use mir.Syntax.{w64}
 use lib.ListN.{length, get_or, set, take, length-append}
 use lib.Seq.{sets, length-sets, take-suc}
 use Rattle.std.specs.List.{flat_map}
@@ -86,21 +83,7 @@ wrote_once buf at w n n' buf₁ buf₂ one two = ⊎_elim
     (a.ends ∙ sym b.ends, a.holds ∙ sym b.holds))
     (lt_or_le (length buf) (at + length w))
 
--- ---- a writer that tests its room
-nothing_done : (buf : List ℕ) (at : ℕ) (w : List ℕ) → length buf < at + length w → WroteOrNothing buf at w at buf
-nothing_done buf at w late = record { wrote = λ room. absurd (omega arith); nothing = λ h. (refl, refl) }
-
-module _ (buf : List ℕ) (at : ℕ) (w : List ℕ) (needed : ℕ) (is : needed ≡ length w) where
-  pub nothing_too_short : length buf < needed → WroteOrNothing buf at w at buf
-  nothing_too_short short = nothing_done buf at w (omega arith)
-
-  pub nothing_too_late : needed ≤ length buf → length buf - needed < at → WroteOrNothing buf at w at buf
-  nothing_too_late long late = nothing_done buf at w (omega arith)
-
-  pub wrote_in_room : (n : ℕ) (buf' : List ℕ) → needed ≤ length buf → at ≤ length buf - needed → WroteIfRoom buf at w n buf' → WroteOrNothing buf at w n buf'
-  wrote_in_room n buf' long early wrote = record { wrote = wrote.wrote; nothing = λ late. absurd (omega arith) }
-
--- `put`
+-- ---- `put`
 wrote_number : (buf : List ℕ) (at n r : ℕ) (buf' : List ℕ) → r ≡ written_to buf at n → buf' ≡ written buf at n → WroteOrNothing buf at (encode n) r buf'
 unfolding written written_to fits pick
 wrote_number buf at n r buf' next is = record {
@@ -135,16 +118,6 @@ module _ {A : Type 0} (bytes : A → List ℕ) (row : List A) where
   module _ (i : ℕ) (a d : A) (here : i < length row) (is : a ≡ get_or row i d) where
     form_next : flat_map bytes (take (i + 1) row) ≡ flat_map bytes (take i row) ++ bytes a
     form_next = ap (flat_map bytes) (take_more row i d here) ∙ rw (← is) (sym (flat_map_more bytes [] (take i row) a))
-
-    module _ (size more : ℕ) (so_far : size ≡ length (flat_map bytes (take i row))) (next : more ≡ length (bytes a)) where
-      pub forms_counted : size + more ≡ length (flat_map bytes (take (i + 1) row))
-      forms_counted = rw form_next (omega (arith, length-append (flat_map bytes (take i row)) (bytes a)))
-
-    pub forms_few : (most size more : ℕ) → size ≤ most * i → more ≤ most → size + more ≤ most * (i + 1)
-    forms_few most size more so_far few = omega arith
-
-    pub forms_fit : (most size more : ℕ) → size ≤ most * i → more ≤ most → most * length row < 18446744073709551616 → Fits w64 (size + more)
-    forms_fit most size more so_far few fits = omega (arith, mul-le-mul_left most here)
 
     pub forms_wrote :
         (buf₀ : List ℕ) (at next : ℕ) (buf : List ℕ) (next' : ℕ) (buf' : List ℕ) →

@@ -118,6 +118,7 @@ fn narrow(n: usize) -> u32
 }
 
 // The bytes of a number's form; 0 for a number that has none.
+// Kept: (d) 0 is the length of no bytes, and it is added to other lengths: `size(c.fastest.0 as usize) + size(c.count)`.
 pub fn size(n: usize) -> usize
     ensures { (result ≡ length (encode n)) × (result ≤ groups) }
 {
@@ -219,6 +220,7 @@ impl Form for Link {
 }
 
 // The bytes of a curve's form; 0 for a curve that has none.
+// Kept: (d) 0 is the length of no bytes, and it is added to other lengths: `size(part) + curve_size(curve)`.
 pub fn curve_size(c: Curve) -> usize
     ensures { (result ≡ length (curve_bytes c)) × (result ≤ 11 * groups) }
 {

@@ -63,7 +63,7 @@ pub fn read_number(s: &[u8], at: usize) -> Answer<Read<u32>>
 }
 
 // The bytes of a number's form; 0 for a number that has none.
-// Kept: (d) 0 is the length of no bytes, and it is added to other lengths: `fields::size(a) + fields::size(b)`.
+// Kept: (d) 0 is the length of no bytes, and lengths are added: `fields::size(from) + fields::size(to)`.
 pub fn size(n: u32) -> usize
     ensures { result ≡ length (encode n) }
 {

@@ -41,6 +41,7 @@ fn read_deadline(s: &[u8], at: usize) -> Answer<Read<Order>>
     })
 }
 
+// Kept: (d) a test and two values; a closure for the two, as `|from, to| Order::AddLink { from, to }`, wants a contract that says as much again.
 fn link_order(adds: bool, from: usize, to: usize) -> Order
     ensures { result ≡ link_order adds from to }
 {

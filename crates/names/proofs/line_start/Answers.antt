@@ -1,11 +1,7 @@
-use mathlib.Core.Path.{refl}
 use borrow.Author.Rules.{rules}
 use Rattle.names.proofs.SheetLaws.{line_here, line_over, line_passed, line_goes_on}
 use Rattle.names.proofs.line_start.Goals.{then-sheet-at-eq-LINE_END, else-sheet-at-eq-LINE_END}
 use Rattle.names.proofs.line_start.Goals as goal
-
-pub loop-at-init : goal.loop-at-init
-loop-at-init c = refl
 
 pub returns-then-left-eq0 : goal.returns-then-left-eq0
 returns-then-left-eq0 c = (search rules, search line_here)
