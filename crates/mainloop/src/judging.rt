@@ -23,7 +23,8 @@ fn arc_at(net: &Net, work: &Work, a: usize) -> Arc
     }
 }
 
-// Ticks that all save the same: from `begin` up to `end`.
+// Ticks that all save the same: from `begin` up to `end`. Past the last run the end is later than any time.
+// Kept: (d) the end bounds how far nodes may go down, as any other end does; an Option would need a case at each use.
 #[derive(Clone, Copy)]
 pub(crate) struct Run {
     pub begin: u32,

@@ -67,6 +67,7 @@ impl Work {
 
 // All that net and work say of one arc, for the function that judges arcs: its ends, the rooms of the labels behind and ahead (0: no label), its ticks
 // past the base, and its load.
+// Kept: (d) a room is an amount that can be pushed, the least of several along a way; where it is 0 nothing can, and an Option would say so twice.
 #[derive(Clone, Copy)]
 pub struct Arc {
     pub tail: usize,

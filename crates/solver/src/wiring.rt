@@ -18,6 +18,7 @@ fn put(net: &mut Net, a: usize, from: usize, to: usize, ticks: u32)
     net.base[a] = ticks;
 }
 
+// Kept: (d) four blocks of arcs, a loop each: one loop over a closure would have clauses for its calls at every place, longer than the loops.
 // Each part, from its start to its end.
 fn lay_parts(b: Board, net: &mut Net)
     requires { WellFormed b }
