@@ -80,7 +80,6 @@ unfolding hex_of
 hex_next bytes i more = ap hex_of (take_more bytes i 0 more) ∙ hex_both (take i bytes) (get_or bytes i 0 ∷ [])
 
 -- ---- `hex_byte`: a byte has two digits
--- ---- `hex_byte`: a byte has two digits
 two_digits : (byte k : ℕ) → byte < 256 → IsDigitCount 16 2 byte k → k ≡ 2
 two_digits byte k small fewest = elim (cases_lt 2 k) [
   | inl more ↦

@@ -89,7 +89,7 @@ impl<W: Write> Out<W> {
     ghost use Rattle.std.specs.Prelude.{ℕ, [], ◌∷◌, ◌++◌, ◌/◌, ◌%◌, ◌↔◌, Some, IsErr, IfErr, take};
     ghost use Rattle.io.specs.Digits.{hex_digit_ascii};
     ghost use Rattle.console.specs.Output.{HasFailed, out_writer, Stays, WritesTo, GoesOn, Put, NumberPut};
-    ghost use Rattle.console.specs.Page.{hex_of};
+    ghost use Rattle.console.specs.Page.{text_on, hex_of};
 
     // The same over any writer.
     pub fn to(writer: W) -> Out<W>
@@ -190,7 +190,7 @@ impl<W: Write> Out<W> {
 
     // Ends the line and writes it out.
     pub fn print_line(&mut self)
-        ensures begun { self.new.at ≡ 0 }
+        ensures begun { (self.new.at ≡ 0) × (self.new.page ≡ text_on self.old.page self.old.at (10 ∷ [])) }
         ensures stays { Stays self.old self.new }
         ensures goes_on { GoesOn W.contents self.old self.new (10 ∷ []) }
     {
