@@ -1,18 +1,15 @@
 -- The ways through the functions that a host calls.
 -- Assumes nothing.
-use mathlib.Core.Path.{◌≡◌, refl, sym, ap, ◌∙◌}
+use mathlib.Core.Path.{◌≡◌, refl, ap, ◌∙◌}
 use mathlib.Core.List.{List}
 use mathlib.Core.Logic.{inl, inr}
-use Prim.Native.Nat.{ℕ, ◌+◌, ◌-◌, ◌<◌, ◌≤◌}
+use Prim.Native.Nat.{ℕ, ◌+◌, ◌<◌, ◌≤◌}
 use native.Mathlib.Nat.{le_antisymm}
 use native.Mathlib.Numerals.{add-one}
 use native.Mathlib.Omega.{arith}
 use lib.ListN.{length}
 use Rattle.base.proofs.Cases.{finished}
-use Rattle.std.specs.Prelude.{Some, None, Ok, Err}
-use Rattle.refusal.specs.declared.Refusal.{Refusal}
-use Rattle.refusal.specs.Refusal.{Answer}
-use Rattle.curve.specs.declared.Microwatts.{Microwatts}
+use Rattle.std.specs.Prelude.{Option, Some, None, MatchOption}
 use Rattle.curve.specs.declared.Curve.{Curve}
 use Rattle.curve.specs.Answers.{power_at_of}
 use Rattle.board.specs.Board.{WellFormed, curve_at}
@@ -21,7 +18,7 @@ use Rattle.solver.specs.declared.Solved.{Solved}
 use Rattle.solver.specs.Solve.{Sound}
 use Rattle.desk.specs.declared.Tally.{Tally}
 use Rattle.desk.specs.declared.Ordered.{Ordered}
-use Rattle.desk.specs.Held.{Standing}
+use Rattle.desk.specs.Held.{Standing, where_held}
 use Rattle.desk.specs.Order.{OrderGiven}
 use Rattle.desk.proofs.Judging.{empty_stands}
 use Rattle.desk.specs.declared.Held.{Held}
@@ -31,9 +28,7 @@ use Rattle.desk.specs.declared.Desk.{Desk}
 use Rattle.desk.specs.declared.Loaded.{Loaded}
 use Rattle.desk.specs.Empty.{empty_desk}
 use Rattle.desk.specs.Load.{no_tally, LoadSaid}
-use Rattle.questions.specs.declared.Marked.{Marked}
-use Rattle.questions.specs.Sets.{UpstreamSaid}
-use Rattle.hosted.specs.Hosted.{LoadOf, total_in, TotalOf, set_of, UpstreamOf, LastOf, never, found, bytes_from, Orders, ended, made, OrdersOf, watts_of, powers_to, PowersOf, past, powers}
+use Rattle.hosted.specs.Hosted.{LoadOf, total_in, TotalOf, LastOf, never, found, bytes_from, Orders, ended, made, OrdersOf, watts_of, powers_to, PowersOf, past, powers}
 
 pub load_of : (s : List ℕ) (e : Desk) (l : Loaded) → e ≡ empty_desk → LoadSaid e 0 s no_tally l → LoadOf s l.desk
 load_of s e l is said = record { load = l; said = rw is at said; desk = refl }
@@ -41,17 +36,8 @@ load_of s e l is said = record { load = l; said = rw is at said; desk = refl }
 pub total_held : (d : Desk) (h : Held) → d.held ≡ Some h → h.budget.total.0 ≡ total_in d
 total_held d h is = rw is
 
-pub total_none : (d : Desk) → d.held ≡ None → 0 ≡ total_in d
-total_none d is = rw is
-
 pub total_of : (s : List ℕ) (d : Desk) (r : ℕ) → LoadOf s d → r ≡ total_in d → TotalOf s r
 total_of s d r load is = record { held = d; load = load; total = is }
-
-pub upstream_there : (d : Desk) (part : ℕ) (q : Answer Marked) (m : Marked) → UpstreamSaid d part q → q ≡ Ok m → UpstreamOf d part m.set
-upstream_there d part q m said is = record { asked = q; said = said; set = sym (ap set_of is) }
-
-pub upstream_refused : (d : Desk) (part : ℕ) (q : Answer Marked) (e : Refusal) → UpstreamSaid d part q → q ≡ Err e → UpstreamOf d part 0
-upstream_refused d part q e said is = record { asked = q; said = said; set = sym (ap set_of is) }
 
 -- ---- what is found so many times
 pub none_yet : {Is : ℕ → Type 0} → LastOf Is 0 0
@@ -72,31 +58,27 @@ pub load_stands : (s : List ℕ) (d : Desk) → LoadOf s d → Standing d
 load_stands s d l = rw l.desk (load_standing empty_desk no_tally empty_stands 0 s l.load l.said)
 
 -- ---- orders: what comes of those that are left comes of all
-pub record SoFar (s : List ℕ) (d e : Desk) (t : Tally) (at : ℕ) : Type 0 where
+pub record SoFar (s : List ℕ) (d e : Desk) (t : Tally) (left : List ℕ) : Type 0 where
   pub stands : Standing d → Standing e
-  pub rest : Standing d → (r : Desk) → Orders s at e t r → Orders s 0 d no_tally r
+  pub rest : Standing d → (r : Desk) → Orders left e t r → Orders s d no_tally r
 
-pub orders_begun : (s : List ℕ) (d : Desk) → SoFar s d d no_tally 0
+pub orders_begun : (s : List ℕ) (d : Desk) → SoFar s d d no_tally s
 orders_begun s d = record { stands = λ st. st; rest = λ st r o. o }
 
-module _ (s : List ℕ) (d e : Desk) (t : Tally) (at : ℕ) (q : Ordered) where
-  pub order_last : SoFar s d e t at → OrderGiven e (bytes_from s at) t q → q.took ≡ 0 → Standing d → Orders s 0 d no_tally e
+module _ (s : List ℕ) (d e : Desk) (t : Tally) (left : List ℕ) (q : Ordered) where
+  pub order_last : SoFar s d e t left → OrderGiven e left t q → q.took ≡ 0 → Standing d → Orders s d no_tally e
   order_last so given none st = so.rest st e (ended (given.said (so.stands st)) (inl none))
 
-  pub order_over : SoFar s d e t at → OrderGiven e (bytes_from s at) t q → length s - at < q.took → Standing d → Orders s 0 d no_tally e
+  pub order_over : SoFar s d e t left → OrderGiven e left t q → length left < q.took → Standing d → Orders s d no_tally e
   order_over so given over st = so.rest st e (ended (given.said (so.stands st)) (inr over))
 
-  pub order_more : SoFar s d e t at → OrderGiven e (bytes_from s at) t q → SoFar s d q.desk q.tally (at + q.took)
+  pub order_more : SoFar s d e t left → OrderGiven e left t q → SoFar s d q.desk q.tally (bytes_from left q.took)
   order_more so given = record {
-    stands = λ st. order_standing e t (so.stands st) (bytes_from s at) q (given.said (so.stands st));
+    stands = λ st. order_standing e t (so.stands st) left q (given.said (so.stands st));
     rest = λ st r o. so.rest st r (made (given.said (so.stands st)) o);
   }
 
--- the loop is left from within
-pub order_past : (s : List ℕ) (d e : Desk) (at : ℕ) → at ≤ length s → length s < at → Standing d → Orders s 0 d no_tally e
-order_past s d e at within over = absurd (omega arith)
-
-pub orders_of : (s s' : List ℕ) (d e : Desk) (r : ℕ) → LoadOf s d → (Standing d → Orders s' 0 d no_tally e) → r ≡ total_in e → OrdersOf s s' r
+pub orders_of : (s s' : List ℕ) (d e : Desk) (r : ℕ) → LoadOf s d → (Standing d → Orders s' d no_tally e) → r ≡ total_in e → OrdersOf s s' r
 orders_of s s' d e r load all is = record { before = d; load = load; held = e; made = all (load_stands s d load); total = is }
 
 -- ---- a board that is held, solved anew
@@ -110,12 +92,6 @@ pub total_anew : (s : List ℕ) (d : Desk) (r : ℕ) → LoadOf s d → (Standin
 total_anew s d r load is = record { held = d; load = load; total = is (load_stands s d load) }
 
 -- ---- powers
-pub watts_there : (c : Curve) (delay : ℕ) (p : Answer Microwatts) (x : Microwatts) → p ≡ power_at_of c delay → p ≡ Ok x → x.0 ≡ watts_of (power_at_of c delay)
-watts_there c delay p x is there = ap watts_of (sym there ∙ is)
-
-pub watts_off : (c : Curve) (delay : ℕ) (p : Answer Microwatts) (e : Refusal) → p ≡ power_at_of c delay → p ≡ Err e → 0 ≡ watts_of (power_at_of c delay)
-watts_off c delay p e is off = ap watts_of (sym off ∙ is)
-
 pub no_powers : (c : Curve) → 0 ≡ powers_to c 0
 unfolding powers_to
 no_powers c = refl
@@ -130,9 +106,11 @@ all_powers c sum k n is below done = finished (powers_to c) below done is
 pub powers_past : (s : List ℕ) (part n : ℕ) → 64 ≤ part → PowersOf s part n 0
 powers_past s part n far = past far refl
 
-module _ (s : List ℕ) (part n : ℕ) (d : Desk) (load : LoadOf s d) (here : part < 64) where
-  pub powers_of : (r : ℕ) (h : Held) → d.held ≡ Some h → r ≡ powers_to (curve_at h.board part) n → PowersOf s part n r
-  powers_of r h there is = powers load here (rw there is)
-
-  pub powers_none : d.held ≡ None → PowersOf s part n 0
-  powers_none none = powers load here (rw none)
+pub powers_of :
+    (s : List ℕ) (part n r : ℕ) (d : Desk) (P : Held → Type 0) → LoadOf s d → part < 64 → ((h : Held) → P h → r ≡ powers_to (curve_at h.board part) n) →
+    MatchOption d.held (r ≡ 0) P → PowersOf s part n r
+powers_of s part n r d P load here each so = powers load here (of_held d.held so)
+  where
+    of_held : (o : Option Held) → MatchOption o (r ≡ 0) P → r ≡ where_held o 0 (λ h. powers_to (curve_at h.board part) n)
+    of_held None none = none
+    of_held (Some h) is = each h is

@@ -58,19 +58,18 @@ pub record UpstreamAsked (s : List ℕ) (part times r : ℕ) : Type 0 where
 abbrev pub bytes_from : List ℕ → ℕ → List ℕ
 bytes_from s at = take (length s - at) (drop at s)
 
--- the orders of the bytes s from place `at` on, each made on the desk and with the tally that the one before left, until one takes no bytes or more
--- than there are
-pub data Orders (s : List ℕ) : ℕ → Desk → Tally → Desk → Type 0 where
-  ended :
-      {at : ℕ} {d : Desk} {t : Tally} {q : Ordered} → OrderSaid d (bytes_from s at) t q → (q.took ≡ 0) ⊎ (length s - at < q.took) → Orders s at d t d
-  made : {at : ℕ} {d r : Desk} {t : Tally} {q : Ordered} → OrderSaid d (bytes_from s at) t q → Orders s (at + q.took) q.desk q.tally r → Orders s at d t r
+-- the orders of the bytes s, each made on the desk and with the tally that the one before left, until one takes no bytes or more than there are
+pub data Orders : List ℕ → Desk → Tally → Desk → Type 0 where
+  ended : {s : List ℕ} {d : Desk} {t : Tally} {q : Ordered} → OrderSaid d s t q → (q.took ≡ 0) ⊎ (length s < q.took) → Orders s d t d
+  made :
+      {s : List ℕ} {d r : Desk} {t : Tally} {q : Ordered} → OrderSaid d s t q → Orders (bytes_from s q.took) q.desk q.tally r → Orders s d t r
 
 -- the total that is held after a load of the bytes s and the orders in s'
 pub record OrdersOf (s s' : List ℕ) (r : ℕ) : Type 0 where
   pub before : Desk
   pub load : LoadOf s before
   pub held : Desk
-  pub made : Orders s' 0 before no_tally held
+  pub made : Orders s' before no_tally held
   pub total : r ≡ total_in held
 
 -- a power as a number; 0 where it is refused
