@@ -24,6 +24,7 @@ pub struct Link {
 }
 
 // There are `parts` parts and `links` links: the first of `curve` and of `link` are the board's, the others are blank.
+// Kept: buffers with their counts (a): memory is fixed, and a board is a value that is copied.
 #[derive(Clone, Copy)]
 pub struct Board {
     pub rule: Rule,

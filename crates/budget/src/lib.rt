@@ -52,9 +52,9 @@ fn with_power(total: Total, power: Microwatts) -> Total
 }
 
 // Each part's delay, from its start to its end.
-fn delays(n: usize, start: [Ticks; 64], end: [Ticks; 64]) -> [Ticks; 64]
+fn delays(n: usize, start: &[Ticks; 64], end: &[Ticks; 64]) -> [Ticks; 64]
     requires { n ≤ 64 }
-    ensures { result ≡ delays_of n start end }
+    ensures { result ≡ delays_of n start.now end.now }
 {
     let mut d = [Ticks(0); 64];
     for k in 0..n {
@@ -64,22 +64,21 @@ fn delays(n: usize, start: [Ticks; 64], end: [Ticks; 64]) -> [Ticks; 64]
 }
 
 // Each part's power at its delay.
-fn powers(b: Board, delay: [Ticks; 64]) -> [Microwatts; 64]
-    ensures { result ≡ powers_of b delay }
+fn powers(b: &Board, delay: &[Ticks; 64]) -> [Microwatts; 64]
+    ensures { result ≡ powers_of b.now delay.now }
 {
     let n = b.parts.min(64);
     let mut w = [Microwatts(0); 64];
     for k in 0..n {
-        let c = b.curve[k];
-        w[k] = power_of(c, delay[k]);
+        w[k] = power_of(b.curve[k], delay[k]);
     }
     w
 }
 
 // The sum of the powers.
-fn total_of(n: usize, power: [Microwatts; 64]) -> Total
+fn total_of(n: usize, power: &[Microwatts; 64]) -> Total
     requires { n ≤ 64 }
-    ensures { result.0 ≡ total_of n power }
+    ensures { result.0 ≡ total_of n power.now }
 {
     let mut sum = Total(0);
     for p in 0..n {
@@ -93,14 +92,14 @@ pub fn budget_of(b: Board, start: [Ticks; 64], end: [Ticks; 64]) -> Budget
     ensures { result ≡ budget_of b start end }
 {
     let n = b.parts.min(64);
-    let delay = delays(n, start, end);
-    let power = powers(b, delay);
-    let all = total_of(n, power);
+    let delay = delays(n, &start, &end);
+    let power = powers(&b, &delay);
+    let total = total_of(n, &power);
     Budget {
-        start: start,
-        delay: delay,
-        end: end,
-        power: power,
-        total: all,
+        start,
+        delay,
+        end,
+        power,
+        total,
     }
 }

@@ -27,6 +27,7 @@ pub struct Run {
 }
 
 // The first `count` of `runs` are the curve's; the others are blank.
+// Kept: a buffer with its count (a): memory is fixed, and a curve is a value that is copied.
 #[derive(Clone, Copy, PartialEq, Eq)]
 pub struct Curve {
     pub fastest: Ticks,

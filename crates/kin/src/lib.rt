@@ -80,8 +80,8 @@ fn joined(set: u64, seen: u64, k: usize, row: u64) -> u64
 }
 
 // The set and all that the rows of those seen mark.
-fn gathered(rows: [u64; 64], seen: u64, set: u64) -> u64
-    ensures { result ≡ gathered_of rows seen set }
+fn gathered(rows: &[u64; 64], seen: u64, set: u64) -> u64
+    ensures { result ≡ gathered_of rows.now seen set }
 {
     let mut s = set;
     for k in 0..64 {
@@ -90,13 +90,13 @@ fn gathered(rows: [u64; 64], seen: u64, set: u64) -> u64
     s
 }
 
+// Kept: two steps that differ in direction (a): 01, Language forms, has parent step and child step call each other.
 // Children are all that critical links lead to from the parents. The parents have all that lead to the children so far.
 #[cycle(child_step_parent_step)]
-fn child_step(t: Rows, parents: u64, children: u64) -> Kin
-    ensures { Led t.up children parents → Grown t parents children result }
+fn child_step(t: &Rows, parents: u64, children: u64) -> Kin
+    ensures { Led t.now.up children parents → Grown t.now parents children result }
 {
-    let rows = t.down;
-    let next = gathered(rows, parents, children);
+    let next = gathered(&t.down, parents, children);
     if next == children {
         return Kin { parents, children };
     }
@@ -105,11 +105,10 @@ fn child_step(t: Rows, parents: u64, children: u64) -> Kin
 
 // Parents are all that have a critical link to the children. The children are all that the parents so far lead to.
 #[cycle(child_step_parent_step)]
-fn parent_step(t: Rows, parents: u64, children: u64) -> Kin
-    ensures { Led t.down parents children → Grown t parents children result }
+fn parent_step(t: &Rows, parents: u64, children: u64) -> Kin
+    ensures { Led t.now.down parents children → Grown t.now parents children result }
 {
-    let rows = t.up;
-    let next = gathered(rows, children, parents);
+    let next = gathered(&t.up, children, parents);
     if next == parents {
         return Kin { parents, children };
     }
@@ -121,5 +120,5 @@ pub fn kin_of(b: Board, held: Budget, p: usize) -> Kin
     ensures { KinOf (Critical b held) p result }
 {
     let t = critical_rows(&b, &held);
-    child_step(t, marks::one(p), 0)
+    child_step(&t, marks::one(p), 0)
 }

@@ -13,6 +13,7 @@ use curve::Ticks;
 use times::{fastest_delays, times_of};
 
 // Parts in the order of a path: the first `count` of `parts`. The rest is 0.
+// Kept: a buffer with its count (a): memory is fixed, and an answer with its path is a value that is copied.
 #[derive(Clone, Copy, PartialEq, Eq)]
 pub struct Trail {
     pub count: usize,
@@ -70,9 +71,9 @@ fn later(a: usize, first: Ticks, b: usize, second: Ticks) -> usize
 }
 
 // The lowest-numbered of the first `n` parts whose end is greatest.
-fn last_part(e: [Ticks; 64], n: usize) -> usize
+fn last_part(e: &[Ticks; 64], n: usize) -> usize
     requires { n ≤ 64 }
-    ensures { result ≡ last_of e n }
+    ensures { result ≡ last_of e.now n }
 {
     let mut last: usize = 0;
     for k in 0..n {
@@ -117,7 +118,7 @@ pub fn slow_path(b: Board) -> Option<ShownPath>
     let parts = b.parts.min(64);
     let t = times_of(b, fastest_delays(b));
     let e = t.end;
-    let last = last_part(e, parts);
+    let last = last_part(&e, parts);
     let ticks = e[last].0;
     let limit = usable_deadline(b);
     if ticks <= limit.0 {

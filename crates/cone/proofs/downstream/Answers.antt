@@ -1,8 +1,7 @@
 -- `downstream` meets its contract.
 -- Assumes nothing.
-use Rattle.curve.proofs.Ways.{room_of}
 use Rattle.cone.proofs.Cones.{downstream_said}
 use Rattle.cone.proofs.downstream.Goals as goal
 
 pub returns : goal.returns
-returns c = search (downstream_said, room_of)
+returns c = search (downstream_said)

@@ -9,4 +9,4 @@ pub returns-then-rises : goal.returns-then-rises
 returns-then-rises c = ranks_free _ _ _ _ (search rules) (search (room_of)) c.rises.ensures (search rules)
 
 pub returns : goal.returns
-returns c = search (said, room_of)
+returns c = search (said)

@@ -12,7 +12,7 @@ pub offset_bounds-e-last : goal.offset_bounds-e-last
 offset_bounds-e-last c = search (scaled, last_in, rules)
 
 pub bounds-e-last : goal.bounds-e-last
-bounds-e-last c = search (scaled, last_in, rules)
+bounds-e-last c = search (last_in, rules)
 
 pub offset_bounds-e-k : goal.offset_bounds-e-k
 offset_bounds-e-k c = search (scaled, last_in, rules)

@@ -1,6 +1,6 @@
 -- `curve::Curve::slowest` meets its contract. The loop: after k runs the delay is the fastest plus their lengths, cut to its type.
 -- Assumes nothing.
-use Rattle.curve.proofs.Ways.{room_of, slow_none, slow_more, slow_done}
+use Rattle.curve.proofs.Ways.{slow_none, slow_more, slow_done}
 use Rattle.curve.proofs.Curve.slowest.Goals as goal
 
 pub loop-k-init : goal.loop-k-init
@@ -10,4 +10,4 @@ pub loop-k-preserved : goal.loop-k-preserved
 loop-k-preserved c = search (slow_more)
 
 pub returns : goal.returns
-returns c = search (slow_done, room_of)
+returns c = search (slow_done)
