@@ -19,7 +19,7 @@ use tree::Tree;
 // Where no tree is found, both stay.
 pub fn advise(net: &Net, loads: &mut [u32; 448], hint: &mut [u32; 130]) {
     let given = Given::of(net);
-    // Kept: (b) work and tree are filled where they stand: returned by what makes them, they are copied, and a load's advice takes 23.7 us, not 17.6.
+    // Kept: (b) work and tree are filled where they stand: returned by what makes them, they are copied, and advice on an order takes 7.9 us, not 5.3.
     let mut work = Work::BLANK;
     work.lay(&given, loads);
     let mut tree = Tree::BLANK;
