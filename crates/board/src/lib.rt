@@ -25,6 +25,7 @@ pub struct Link {
 
 // There are `parts` parts and `links` links: the first of `curve` and of `link` are the board's, the others are blank.
 // Kept: buffers with their counts (a): memory is fixed, and a board is a value that is copied.
+// Kept: (a) memory is fixed, so a load cannot fail for want of it: rows with their counts, and `WellFormed` says that what is past a count is blank.
 #[derive(Clone, Copy)]
 pub struct Board {
     pub rule: Rule,

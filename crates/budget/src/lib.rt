@@ -13,6 +13,7 @@ use curve::{Curve, Microwatts, Ticks};
 pub struct Total(pub u64);
 
 // Places without a part hold 0.
+// Kept: (a) `Allowed` and `Holds` speak of starts, delays, ends and powers, each for all parts.
 #[derive(Clone, Copy, PartialEq, Eq)]
 pub struct Budget {
     pub start: [Ticks; 64],
