@@ -32,7 +32,7 @@ fn main(rt: HostRuntime) -> Result<()> {
 
 // The board with its orders, and what is then held; or why nothing is.
 fn plan(out: &mut Out, board: &[u8], orders: &[u8], names: &[u8]) -> Answer {
-    let l = desk::load(desk::empty(), RULE_A, board, Tally::default());
+    let l = desk::load(desk::empty(), RULE_A, board, Tally::NONE);
     l.answer?;
     let mut d = l.desk;
     let mut tally = l.tally;

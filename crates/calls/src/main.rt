@@ -63,7 +63,7 @@ fn answer_calls(talk: &mut Talk) {
 fn begin() -> Session {
     Session {
         desk: desk::empty(),
-        tally: Tally::default(),
+        tally: Tally::NONE,
         rule: 0,
     }
 }
