@@ -24,6 +24,7 @@ pub fn order(d: Desk, bytes: &[u8], t: &mut Tally) -> Ordered
 }
 
 // A session's load names rule A.
+// Kept: (a) `load` takes the rule's number (02, Req 06).
 const RULE_A: u32 = 0;
 
 // What a session comes to: its last order, and the tally that was lent.
