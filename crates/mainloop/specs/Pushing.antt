@@ -11,7 +11,9 @@ use Rattle.mainloop.specs.Labelling.{LabelsIn}
 -- from w to w' only loads have changed
 pub record Loading (w w' : Work) : Type 0 where
   pub time : w'.time ≡ w.time
+  pub rank : w'.rank ≡ w.rank
   pub via : w'.via ≡ w.via
+  pub room : w'.room ≡ w.room
 
 module _ (net : Net) (w : Work) where
   -- d can be carried over the arc that node v's label came along

@@ -56,7 +56,12 @@ module _ (net : Net) (w : Work) (p : PushableIn net w) where
 
         module _ (w'' : Work) (r : ℕ) (k : CarriesIn net w' v d w'' r) where
           only : Loading w w''
-          only = record { time = k.only.time ∙ s.only.time; via = k.only.via ∙ s.only.via }
+          only = record {
+            time = k.only.time ∙ s.only.time;
+            rank = k.only.rank ∙ s.only.rank;
+            via = k.only.via ∙ s.only.via;
+            room = k.only.room ∙ s.only.room;
+          }
 
           next : CarriedIn net w d w'' r × (cells w.rank r < cells w.rank v)
           unfolding b
