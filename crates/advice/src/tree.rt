@@ -119,6 +119,7 @@ impl Tree {
     }
 
     // d along the way between node v and node `top` above it.
+    // Kept: (d) a direction: it is compared with the arc's.
     pub fn push(&self, arcs: &mut Arcs, v: Node, top: Node, upward: bool, d: u32) {
         let mut y = v;
         for _ in 0..130 {

@@ -24,7 +24,6 @@ pub struct Link {
 }
 
 // There are `parts` parts and `links` links: the first of `curve` and of `link` are the board's, the others are blank.
-// Kept: buffers with their counts (a): memory is fixed, and a board is a value that is copied.
 // Kept: (a) memory is fixed, so a load cannot fail for want of it: rows with their counts, and `WellFormed` says that what is past a count is blank.
 #[derive(Clone, Copy)]
 pub struct Board {
@@ -65,6 +64,7 @@ pub fn plain_link(from: usize, to: usize) -> Link
 }
 
 // The ticks that a link takes.
+// Kept: (a) every reader of a delay goes by it: 02 has links with a delay of their own.
 pub fn link_delay(l: Link) -> Ticks
     ensures { result.0 ≡ delay_of l }
 {

@@ -13,7 +13,7 @@ use curve::{Curve, Microwatts, Ticks};
 pub struct Total(pub u64);
 
 // Places without a part hold 0.
-// Kept: (a) `Allowed` and `Holds` speak of starts, delays, ends and powers, each for all parts.
+// Kept: (d) columns: `budget_of` is given two and makes two more of them, and each is read alone.
 #[derive(Clone, Copy, PartialEq, Eq)]
 pub struct Budget {
     pub start: [Ticks; 64],

@@ -27,7 +27,6 @@ pub struct Run {
 }
 
 // The first `count` of `runs` are the curve's; the others are blank.
-// Kept: a buffer with its count (a): memory is fixed, and a curve is a value that is copied.
 // Kept: (a) memory is fixed, and every contract holds for any count: `slowest_of` and the like take at most four runs.
 #[derive(Clone, Copy, PartialEq, Eq)]
 pub struct Curve {

@@ -7,6 +7,7 @@ ghost use Rattle.deciding.specs.Asking.{PlacedIn, ends_in};
 use nets::Net;
 
 // How many ticks of arc `a` save more than `x`. Arcs from 64 on have no runs.
+// Kept: (d) apart from the main loop's `run_at`: each takes of an arc what its clauses speak of, a count of ticks or the run of one.
 fn above(net: &Net, a: usize, x: u32) -> u32
     requires { BendsIn net.now a }
     ensures { Above (gain_in net.now a) x result }

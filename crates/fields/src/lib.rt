@@ -155,6 +155,7 @@ pub trait Form {
 }
 
 // Writes one at a place and hands back the place past it; without room it does nothing.
+// Kept: (d) as at `groups::write_number`: the next write begins at the place that is handed back.
 pub fn write_in_room<T: Form>(buf: &mut [u8], at: usize, x: &T) -> usize
     ensures { WroteOrNothing buf.old at (T.bytes x.now) result buf.new }
 {

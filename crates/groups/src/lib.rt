@@ -80,6 +80,7 @@ pub fn size(n: u32) -> usize
 }
 
 // Writes a number's form at a place of a buffer and hands back the place past it; without a form or without room it does nothing.
+// Kept: (d) the place past what was written, which is the place itself where nothing was: the next write begins there, with no case between.
 pub fn write_number(buf: &mut [u8], at: usize, n: u32) -> usize
     ensures { (result ≡ written_to buf.old at n) × (buf.new ≡ written buf.old at n) }
 {

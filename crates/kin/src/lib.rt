@@ -90,7 +90,7 @@ fn gathered(rows: &[u64; 64], seen: u64, set: u64) -> u64
     s
 }
 
-// Kept: two steps that differ in direction (a): 01, Language forms, has parent step and child step call each other.
+// Kept: (a) 01 names this form, parent step and child step that call each other.
 // Children are all that critical links lead to from the parents. The parents have all that lead to the children so far.
 #[cycle(child_step_parent_step)]
 fn child_step(t: &Rows, parents: u64, children: u64) -> Kin

@@ -31,6 +31,7 @@ impl Arc {
     }
 
     // The length that suits where the load is to rise, or to fall.
+    // Kept: (d) a direction, here and below: it is compared and turned (`!rises`), and a closure can be neither.
     pub fn bound(&self, rises: bool) -> u32 {
         if rises { self.low } else { self.high }
     }

@@ -24,7 +24,6 @@ fn arc_at(net: &Net, work: &Work, a: usize) -> Arc
 }
 
 // Ticks that all save the same: from `begin` up to `end`. Past the last run the end is later than any time.
-// Kept: (d) the end bounds how far nodes may go down, as any other end does; an Option would need a case at each use.
 #[derive(Clone, Copy)]
 pub(crate) struct Run {
     pub begin: u32,
@@ -81,6 +80,7 @@ pub(crate) enum Sight {
 }
 
 // Arc `a`, which is `k`, leads from a node without a label: more load, or fewer ticks.
+// Kept: (d) it and `fall` differ in ends, in the tick that is asked about and in both comparisons: one body would ask the way four times.
 fn rise(net: &Net, a: usize, k: Arc) -> Sight
     requires bends_in { BendsIn net.now a }
     requires calm { Calm (gain_in net.now a) k }

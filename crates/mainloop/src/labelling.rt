@@ -19,6 +19,7 @@ pub(crate) fn mark(work: &mut Work, label: Label, count: usize)
 }
 
 // Only the sink has a label.
+// Kept: (d) as at `nets::Arc`: a room of 0 can carry nothing, and is no label.
 pub(crate) fn reset(work: &mut Work)
     ensures { FreshIn work.old work.new }
 {

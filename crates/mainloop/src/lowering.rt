@@ -2,6 +2,7 @@
 ghost use Rattle.nets.specs.Steps.{Moved};
 ghost use Rattle.mainloop.specs.Lowering.{Shifted};
 
+// Kept: (d) as at `nets::Arc`: a room of 0 is no label.
 fn moved(t: u32, room: u32, d: u32) -> u32
     ensures { Moved t room d result }
 {

@@ -1,7 +1,7 @@
 -- The table of refusals: their numbers. A refusal's place stands beside it. Every promise names a refusal by its number (`by`, `refusal`), so that it
 -- can be held side by side with 01's table.
 -- Assumes nothing.
-use Rattle.std.specs.Prelude.{Bool, true, false, List, [], ◌∷◌, ℕ, ◌-◌, eqb, get_or, Result, Ok, Err}
+use Rattle.std.specs.Prelude.{Bool, true, false, List, [], ◌∷◌, ℕ, ◌-◌, eqb, get_or, Result, Err}
 use Rattle.base.specs.Pick.{pick}
 use Rattle.refusal.specs.declared.Refusal.{Refusal}
 use Rattle.refusal.specs.declared.Why.{Why}

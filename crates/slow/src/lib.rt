@@ -13,7 +13,6 @@ use curve::Ticks;
 use times::{fastest_delays, times_of};
 
 // Parts in the order of a path: the first `count` of `parts`. The rest is 0.
-// Kept: a buffer with its count (a): memory is fixed, and an answer with its path is a value that is copied.
 // Kept: (a) memory is fixed; by `slow_once` two shown paths are equal as values, so what is past the count is 0.
 #[derive(Clone, Copy, PartialEq, Eq)]
 pub struct Trail {
@@ -65,7 +64,6 @@ fn lower(found: Option<usize>, part: usize) -> Option<usize>
 }
 
 // Of two parts, which end at `first` and `second`, the one that ends later, or the first.
-// Kept: (d) `max_by_key` gives the last of the greatest, and the first is asked for; a comparison that breaks ties the other way is no plainer.
 fn later(a: usize, first: Ticks, b: usize, second: Ticks) -> usize
     ensures { result ≡ pick (ltb first.0 second.0) b a }
 {

@@ -6,6 +6,7 @@ ghost use Rattle.tally.specs.Lent.{LentLoad, LentOrder, SessionSaid};
 use desk::{Desk, Loaded, Ordered, Tally};
 
 // Loads a board under the rule that is named, with the tally lent: an accepted load sets it to zero where it stands, a refused one leaves it.
+// Kept: (a) 01 names this form, one thin function over a by-value step.
 pub fn load(d: Desk, rule: u32, file: &[u8], t: &mut Tally) -> Loaded
     ensures { LentLoad d rule file.now t.old result t.new }
 {
@@ -24,7 +25,6 @@ pub fn order(d: Desk, bytes: &[u8], t: &mut Tally) -> Ordered
 }
 
 // A session's load names rule A.
-// Kept: (a) `load` takes the rule's number (02, Req 06).
 const RULE_A: u32 = 0;
 
 // What a session comes to: its last order, and the tally that was lent.
