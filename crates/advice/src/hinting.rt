@@ -1,114 +1,115 @@
 // The room of the hint: arcs of the network in an order in which each reaches a node that none before it has reached, from the source and the sink on.
 // Whoever looks for the first times that fit the loads has most of them when he has tried these arcs once.
-use layout::laying;
-use layout::sheet::*;
+use crate::tree::Tree;
+use layout::given::{Given, Wire};
+use layout::laying::Work;
+use layout::numbers::{List, Node, Part, Place, SINK, SOURCE, Table};
 
-// Arc a reaches node v.
-fn list(s: &mut [u32; 8192], a: u32, v: u32) {
-    let n = get(s, HINTS, 0);
-    put(s, LIST, n, a);
-    put(s, HINTS, 0, add(n, 1));
-    put(s, REACHED, v, 1);
+// In a hint, no arc.
+// Kept: (a) `boddivarn_advise` hands out hints in C, and the solver as `via` of a network's work, both numbers.
+const NONE: u32 = 500;
+
+#[derive(Drop)]
+struct Hints<'a> {
+    given: &'a Given<'a>,
+    work: &'a Work,
+    reached: Table<bool, 130>,
+    arcs: List<Place, 130>,
 }
 
-// Arc a is listed where it leads on from a node that is reached to one that is not, or back to one and has a load.
-fn offer(net: &[u32; 2048], s: &mut [u32; 8192], a: u32) {
-    let tail = read(net, NET_TAIL, a);
-    let head = read(net, NET_HEAD, a);
-    let from = get(s, REACHED, tail);
-    if from == get(s, REACHED, head) {
-        return;
+impl<'a> Hints<'a> {
+    // Arc a reaches node v.
+    fn list(&mut self, a: Place, v: Node) {
+        self.arcs.push(a);
+        self.reached[v] = true;
     }
-    if from == 1 {
-        list(s, a, head);
-        return;
-    }
-    if laying::load_of(s, a) != 0 {
-        list(s, a, tail);
-    }
-}
 
-// The arc by which node v is one with another, if it is.
-fn offer_join(net: &[u32; 2048], s: &mut [u32; 8192], v: u32) {
-    if get(s, SAME, v) == 0 {
-        return;
-    }
-    let a = get(s, BY, v);
-    offer(net, s, a);
-}
-
-// All nodes that are one with node v.
-fn offer_members(net: &[u32; 2048], s: &mut [u32; 8192], v: u32) {
-    let mut up = get(s, MEMBER, v);
-    let mut k: u32 = 0;
-    while k < 130 {
-        if up == 0 {
-            return;
+    // Arc a is listed where it leads on from a node that is reached to one that is not, or back to one and has a load.
+    fn offer(&mut self, a: Place) {
+        let Wire { tail, head, .. } = self.given.wire(a);
+        match (self.reached[tail], self.reached[head]) {
+            (true, false) => self.list(a, head),
+            (false, true) => {
+                if self.work.load_of(a) != 0 {
+                    self.list(a, tail);
+                }
+            }
+            (true, true) | (false, false) => {}
         }
-        let member = sub(up, 1);
-        offer_join(net, s, member);
-        up = get(s, SIBLING, member);
-        k = k + 1;
     }
-}
 
-// Node v of the tree, and all that are one with it, by the arc from its parent. The deadline's arc is none of the network.
-fn offer_node(net: &[u32; 2048], s: &mut [u32; 8192], v: u32) {
-    let a = get(s, PLACE, get(s, ARC, v));
-    if a != NONE {
-        let upward = get(s, UPWARD, v) == 1;
-        let tail = read(net, NET_TAIL, a);
-        let head = read(net, NET_HEAD, a);
-        offer_join(net, s, either(upward, head, tail));
-        offer(net, s, a);
-        offer_join(net, s, either(upward, tail, head));
-    }
-    offer_members(net, s, v);
-}
-
-// The nodes of the tree, each after its parent.
-fn offer_tree(net: &[u32; 2048], s: &mut [u32; 8192]) {
-    let mut v = SOURCE;
-    let mut k: u32 = 0;
-    while k < 130 {
-        v = get(s, NEXT, v);
-        if v == SOURCE {
-            return;
+    // The arc by which node v is one with another, if it is.
+    fn offer_join(&mut self, v: Node) {
+        if let Some(join) = self.work.joint[v].join {
+            self.offer(join.by);
         }
-        offer_node(net, s, v);
-        k = k + 1;
     }
-}
 
-// The ends that nothing has reached so far.
-fn offer_ends(net: &[u32; 2048], s: &mut [u32; 8192]) {
-    let parts = get(s, PARTS, 0);
-    let mut p: u32 = 0;
-    while p < 64 {
-        if parts <= p {
-            return;
+    // All nodes that are one with node v.
+    fn offer_members(&mut self, v: Node) {
+        let mut next = self.work.joint[v].member;
+        for _ in 0..130 {
+            let Some(member) = next else {
+                return;
+            };
+            self.offer_join(member);
+            next = self.work.joint[member].sibling;
         }
-        offer_join(net, s, add(p, 64));
-        offer(net, s, p);
-        p = p + 1;
+    }
+
+    // Node v of the tree, and all that are one with it, by the arc from its parent. The deadline's arc is none of the network.
+    fn offer_node(&mut self, tree: &Tree, v: Node) {
+        let end = tree.twig[v].end;
+        if let Some(a) = self.work.place(end.arc()) {
+            let Wire { tail, head, .. } = self.given.wire(a);
+            let (above, below) = if end.is_tail() {
+                (head, tail)
+            } else {
+                (tail, head)
+            };
+            self.offer_join(above);
+            self.offer(a);
+            self.offer_join(below);
+        }
+        self.offer_members(v);
+    }
+
+    // The nodes of the tree, each after its parent.
+    fn offer_tree(&mut self, tree: &Tree) {
+        let mut v = tree.twig[SOURCE].next;
+        for _ in 0..130 {
+            if v == SOURCE {
+                return;
+            }
+            self.offer_node(tree, v);
+            v = tree.twig[v].next;
+        }
+    }
+
+    // The ends that nothing has reached so far.
+    fn offer_ends(&mut self) {
+        for k in 0..self.given.parts {
+            let p = Part::of(k);
+            self.offer_join(p.end());
+            self.offer(p.place());
+        }
     }
 }
 
 // The arcs that are listed; past them no arc.
-fn take(s: &[u32; 8192], hint: &mut [u32; 130]) {
-    let hints = get(s, HINTS, 0);
-    let mut k: u32 = 0;
-    while k < 130 {
-        hint[k as usize] = either(k < hints, get(s, LIST, k), NONE);
-        k = k + 1;
+pub(crate) fn take<'a>(given: &'a Given<'a>, work: &'a Work, tree: &Tree, hint: &mut [u32; 130]) {
+    let mut hints = Hints {
+        given,
+        work,
+        reached: Table::filled(false),
+        arcs: List::filled(Part::FIRST.place()),
+    };
+    hints.reached[SOURCE] = true;
+    hints.reached[SINK] = true;
+    hints.offer_members(SOURCE);
+    hints.offer_tree(tree);
+    hints.offer_ends();
+    for k in 0..130 {
+        hint[k] = hints.arcs.get(k).map_or(NONE, |a| a.number() as u32);
     }
-}
-
-pub(crate) fn hint(net: &[u32; 2048], s: &mut [u32; 8192], hint: &mut [u32; 130]) {
-    put(s, REACHED, SOURCE, 1);
-    put(s, REACHED, SINK, 1);
-    offer_members(net, s, SOURCE);
-    offer_tree(net, s);
-    offer_ends(net, s);
-    take(s, hint);
 }

@@ -5,19 +5,31 @@
 mod growing;
 mod hinting;
 mod pivoting;
+mod tree;
 mod walking;
 
-use layout::{laying, sheet};
+use growing::Ground;
+use layout::given::Given;
+use layout::laying::Work;
+use nets::Net;
+use tree::Tree;
 
-// Advice on the network in `net`, laid as the crate `layout` says in `sheet`: `loads` are those to begin with (of parts and links: entries and exits are
-// made to go with them), and then those advised. `hint` is filled with numbers of arcs, each of which reaches one node more from the source and the
-// sink on; where there are fewer, with 500, which is no arc. Where no tree is found, both stay.
-pub fn advise(net: &[u32; 2048], loads: &mut [u32; 448], hint: &mut [u32; 130]) {
-    let mut s = [0u32; 8192];
-    laying::lay(net, loads, &mut s);
-    if growing::grow(&mut s) {
-        pivoting::pivot(&mut s);
-        laying::take(&s, loads, sheet::read(net, sheet::NET_ARCS, 0));
-        hinting::hint(net, &mut s, hint);
+// Advice on a network: `loads` are those to begin with (of parts and links: entries and exits are made to go with them), and then those advised. `hint`
+// is filled with numbers of arcs, each of which reaches one node more from the source and the sink on; where there are fewer, with 500, which is no arc.
+// Where no tree is found, both stay.
+pub fn advise(net: &Net, loads: &mut [u32; 448], hint: &mut [u32; 130]) {
+    let given = Given::of(net);
+    // Kept: (b) work and tree are filled where they stand: returned by what makes them, they are copied, and advice on an order takes 7.9 us, not 5.3.
+    let mut work = Work::BLANK;
+    work.lay(&given, loads);
+    let mut tree = Tree::BLANK;
+    let ground = Ground {
+        given: &given,
+        work: &work,
+    };
+    if tree.grow(ground) {
+        tree.pivot(&mut work.arcs);
+        work.take(&given, loads);
+        hinting::take(&given, &work, &tree, hint);
     }
 }

@@ -9,7 +9,7 @@ use native.Mathlib.Decide.{ℕ_discrete}
 use native.Mathlib.Numerals.{add-one}
 use native.Mathlib.Omega.{arith}
 use lib.Dec.{ltb}
-use lib.ListN.{length, get_or, set, length-set, get_or-eq_default}
+use lib.ListN.{length, get_or, set, replicate, length-set, get_or-eq_default}
 use lib.Seq.{ext_get_or, get_or-set_same, get_or-set_other}
 use borrow.Author.Tests.{lt-ltb, le-ltb}
 use Rattle.base.specs.Pick.{pick}
@@ -31,6 +31,12 @@ pub table_length : {A : Type 0} (n : ℕ) (f : ℕ → A) → length (table n f)
 unfolding table
 table_length zero f = refl
 table_length (suc n) f = ap suc (table_length n (λ i. f (suc i)))
+
+-- as many of one value
+pub all_table : {A : Type 0} (n : ℕ) (v : A) → replicate n v ≡ table n (λ p. v)
+unfolding table
+all_table zero v = refl
+all_table (suc n) v = rw (all_table n v)
 
 module _ {A : Type 0} (none : A) where
   pub table_at : (n : ℕ) (f : ℕ → A) (i : ℕ) → i < n → get_or (table n f) i none ≡ f i

@@ -1,12 +1,12 @@
 -- The order of links, and that the tests of a board's links say what `WellFormed` asks of them.
 -- Assumes nothing.
-use mathlib.Core.Path.{◌≡◌, refl}
+use mathlib.Core.Path.{◌≡◌, refl, sym, ◌∙◌}
 use mathlib.Core.Logic.{⊎_elim, ◌≢◌}
-use mathlib.Core.Bool.{Bool, true, false}
+use mathlib.Core.Bool.{Bool, true, false, ◌&&◌}
 use Prim.Native.Nat.{ℕ, zero, suc, ◌-◌, ◌≤◌, ◌<◌}
 use native.Mathlib.Omega.{arith}
 use lib.Dec.{eqb}
-use borrow.Author.Tests.{lt-ltb, le-ltb, lt-leb, eq-eqb, ne_eqb, ltb-false, leb-false, eqb-true, eqb-false}
+use borrow.Author.Tests.{lt-ltb, le-ltb, lt-leb, ne_eqb, ltb-false, leb-false, eqb-true, eqb-false}
 use Rattle.base.specs.Pick.{pick}
 use Rattle.base.proofs.Cases.{lt_or_le}
 use Rattle.curve.specs.Tests.{both}
@@ -14,7 +14,7 @@ use Rattle.curve.proofs.GoodLaws.{every_at, every_all}
 use Rattle.board.specs.declared.Link.{Link}
 use Rattle.board.specs.declared.Board.{Board}
 use Rattle.board.specs.Board.{WellFormed, link_at, no_link, delay_of, order}
-use Rattle.board.specs.Tests.{below_of, link_held, link_blank, link_good, link_test, links_test}
+use Rattle.board.specs.Tests.{below_of, link_held, same_link, link_good, link_test, links_test}
 
 -- ---- tests
 pub clash : {A : Type 0} → false ≡ true → A
@@ -45,16 +45,16 @@ order_ends a x h l e = (omega arith, omega arith)
 
 -- ---- the order
 module _ (a x : Link) (h : a.to < 64) (l : x.to < 64) where
-  pub below_one : order a < order x → below_of a x ≡ 1
+  pub below_one : order a < order x → below_of a x ≡ true
   unfolding below_of pick
   below_one s = ⊎_elim (λ (f : a.from < x.from). rw (lt-ltb _ _ f)) (λ (f : x.from ≤ a.from). let g : a.from ≤ x.from = omega arith in let k : a.to < x.to = omega arith in rw (le-ltb _ _ f, le-ltb _ _ g, lt-ltb _ _ k)) (lt_or_le a.from x.from)
 
-  pub below_none : order x ≤ order a → below_of a x ≡ 0
+  pub below_none : order x ≤ order a → below_of a x ≡ false
   unfolding below_of pick
   below_none s = let f : x.from ≤ a.from = omega arith in ⊎_elim (λ (g : x.from < a.from). rw (le-ltb _ _ f, lt-ltb _ _ g)) (λ (g : a.from ≤ x.from). let k : x.to ≤ a.to = omega arith in rw (le-ltb _ _ f, le-ltb _ _ g, le-ltb _ _ k)) (lt_or_le x.from a.from)
 
-  pub below_order : below_of a x ≡ 1 → order a < order x
-  below_order e = ⊎_elim (λ (s : order a < order x). s) (λ (s : order x ≤ order a). absurd (omega (arith, below_none s))) (lt_or_le (order a) (order x))
+  pub below_order : below_of a x ≡ true → order a < order x
+  below_order e = ⊎_elim (λ (s : order a < order x). s) (λ (s : order x ≤ order a). clash (sym (below_none s) ∙ e)) (lt_or_le (order a) (order x))
 
 -- ---- what the test of a link says
 pub record LinkHeld (b : Board) (l : ℕ) : Type 0 where
@@ -62,7 +62,7 @@ pub record LinkHeld (b : Board) (l : ℕ) : Type 0 where
   pub to_in : (link_at b l).to < b.parts
   pub apart : (link_at b l).from ≢ (link_at b l).to
   pub plain : delay_of (link_at b l) ≡ 0
-  pub above : pick (eqb l 0) true (eqb (below_of (link_at b (l - 1)) (link_at b l)) 1) ≡ true
+  pub above : pick (eqb l 0) true (below_of (link_at b (l - 1)) (link_at b l)) ≡ true
 
 pub held_passed : (b : Board) (l : ℕ) → link_held b.parts l (link_at b (l - 1)) (link_at b l) ≡ true → LinkHeld b l
 unfolding link_held delay_of
@@ -79,12 +79,16 @@ held_passed b l e =
       above = s.1;
     }
 
-pub blank_passed : (x : Link) → link_blank x ≡ true → x ≡ no_link
-unfolding link_blank
+-- the derived test of two links
+pub and_true : (t u : Bool) → (t && u) ≡ true → (t ≡ true) × (u ≡ true)
+and_true true u e = (refl, e)
+and_true false u e = clash e
+
+pub blank_passed : (x : Link) → same_link x no_link ≡ true → x ≡ no_link
 blank_passed x e =
-    let p = passed _ _ e in
-    let q = passed _ _ p.1 in
-    link_same x no_link (omega (arith, ltb-false 0 x.from p.0)) (omega (arith, ltb-false 0 x.to q.0)) (eqb-true _ _ q.1)
+    let p = and_true _ _ e in
+    let q = and_true _ _ p.1 in
+    link_same x no_link (eqb-true _ _ p.0) (eqb-true _ _ q.0) (eqb-true _ _ q.1)
 
 later : (l : ℕ) → eqb (suc l) 0 ≡ false
 later l = ne_eqb (suc l) 0 (λ e. omega arith)
@@ -106,7 +110,7 @@ module _ (b : Board) (few : b.parts ≤ 64) (good : links_test b ≡ true) where
   ascends_of l h r =
       let x = held_of (suc l) h r in
       let a = held_of l (omega arith) (omega arith) in
-      below_order (link_at b l) (link_at b (suc l)) (omega (arith, a.to_in)) (omega (arith, x.to_in)) (eqb-true _ _ (rw (later l, one_less l) at x.above))
+      below_order (link_at b l) (link_at b (suc l)) (omega (arith, a.to_in)) (omega (arith, x.to_in)) (rw (later l, one_less l) at x.above)
 
 -- ---- and the links of a well formed board pass it
 module _ (b : Board) (w : WellFormed b) where
@@ -116,10 +120,10 @@ module _ (b : Board) (w : WellFormed b) where
   held_passes (suc l) h =
       let s = suc l in
       let one = below_one (link_at b l) (link_at b s) (omega (arith, w.to_in l (omega arith), w.parts_to)) (omega (arith, w.to_in s h, w.parts_to)) (w.ascends l h) in
-      rw (lt-leb _ _ (w.from_in s h), lt-leb _ _ (w.to_in s h), ne_eqb _ _ (w.apart s h), w.plain s h, later l, one_less l, eq-eqb _ _ one)
+      rw (lt-leb _ _ (w.from_in s h), lt-leb _ _ (w.to_in s h), ne_eqb _ _ (w.apart s h), w.plain s h, later l, one_less l, one)
 
   link_passes : (l : ℕ) → l < 256 → link_test b l ≡ true
-  unfolding link_test link_good link_blank pick
+  unfolding link_test link_good pick
   link_passes l r = ⊎_elim (λ (h : l < b.links). rw (lt-ltb _ _ h) (held_passes l h)) (λ (h : b.links ≤ l). rw (le-ltb _ _ h, w.blank_links l h r)) (lt_or_le l b.links)
 
   pub links_pass : links_test b ≡ true

@@ -1,58 +1,54 @@
 -- The tests of a board's curves say what `WellFormed` asks of them, and all tests together decide `WellFormed`.
 -- Assumes nothing.
-use mathlib.Core.Path.{◌≡◌, refl, sym, ap, ◌∙◌}
+use mathlib.Core.Path.{◌≡◌, refl, sym, ◌∙◌}
 use mathlib.Core.Logic.{◌⊎◌, inl, inr, ⊎_elim}
 use mathlib.Core.Bool.{Bool, true, false, not}
 use mathlib.Core.List.{List}
 use Prim.Native.Nat.{ℕ, ◌≤◌, ◌<◌}
 use native.Mathlib.Omega.{arith}
-use lib.ListN.{length}
-use borrow.Author.Tests.{lt-ltb, le-ltb, ltb-false, not-true, not-false}
+use lib.ListN.{length, replicate}
+use lib.Pointwise.{pointwise_decides}
+use borrow.Author.Tests.{lt-ltb, le-ltb, eq-eqb, eqb-true, not-true, not-false}
 use Rattle.base.specs.Pick.{pick}
 use Rattle.base.proofs.Cases.{lt_or_le, eq_or_ne}
 use Rattle.curve.specs.declared.Run.{Run}
 use Rattle.curve.specs.declared.Curve.{Curve}
-use Rattle.curve.specs.Curve.{Good}
-use Rattle.curve.specs.Answers.{flat_of}
+use Rattle.curve.specs.Curve.{Good, no_run}
 use Rattle.curve.proofs.GoodLaws.{every_at, every_all, goodb_good, good_goodb, decides_goodb}
-use Rattle.curve.proofs.CurveLaws.{good_same, flat_good}
+use Rattle.board.specs.declared.Link.{Link}
 use Rattle.board.specs.declared.Board.{Board}
-use Rattle.board.specs.Board.{WellFormed, curve_at, blank_curve}
-use Rattle.board.specs.Tests.{Decides, quickened, curve_blank, curve_good, curve_test, curves_test, links_test}
-use Rattle.board.proofs.LinkLaws.{clash, passed, held_of, blank_of, ascends_of, links_pass}
+use Rattle.board.specs.Board.{WellFormed, curve_at, blank_curve, plain_link}
+use Rattle.board.specs.Tests.{Decides, same_link, same_run, same_curve, link_held, link_good, curve_good, curve_test, curves_test, links_test}
+use Rattle.board.proofs.LinkLaws.{clash, and_true, held_of, blank_of, ascends_of, links_pass}
 
 -- ---- a blank curve
-abbrev flat : Curve
-flat = flat_of (record { 0 = 1 }) (record { 0 = 0 })
-
-flat_is_good : Good flat
-flat_is_good = flat_good (record { 0 = 1 }) (record { 0 = 0 }) (omega arith) (omega arith) (omega arith)
-
 made : (f p n : ℕ) (r s : List Run) → f ≡ 0 → p ≡ 0 → n ≡ 0 → r ≡ s
     → ◌≡◌ {A = Curve} (record { fastest = record { 0 = f }; power = record { 0 = p }; count = n; runs = r })
     (record { fastest = record { 0 = 0 }; power = record { 0 = 0 }; count = 0; runs = s })
 made f p n r s fast power count runs = rw (fast, power, count, runs)
 
--- with no runs, all places of a good curve are blank
-blank_runs : (c : Curve) → Good (quickened c) → c.power.0 ≡ 0 → c.count ≡ 0 → c.runs ≡ flat.runs
-unfolding flat_of
-blank_runs c good power count =
-    ap (λ (x : Curve). x.runs) (good_same (quickened c) flat good flat_is_good refl power count (λ i h. absurd (omega arith)))
+run_made : (a b s t : ℕ) → a ≡ b → s ≡ t
+    → ◌≡◌ {A = Run} (record { length = record { 0 = a }; saving = record { 0 = s } }) (record { length = record { 0 = b }; saving = record { 0 = t } })
+run_made a b s t length saving = rw (length, saving)
 
-pub blank_curve_is : (c : Curve) → curve_blank c ≡ true → c ≡ blank_curve
-unfolding curve_blank blank_curve flat_of
+run_decided : (a x : Run) → (same_run a x ≡ true → a ≡ x) × (a ≡ x → same_run a x ≡ true)
+run_decided a x = (
+  λ e. let p = and_true _ _ e in run_made a.length.0 x.length.0 a.saving.0 x.saving.0 (eqb-true _ _ p.0) (eqb-true _ _ p.1),
+  λ e. rw (e, eq-eqb x.length.0 x.length.0 refl, eq-eqb x.saving.0 x.saving.0 refl),
+)
+
+pub blank_curve_is : (c : Curve) → same_curve c blank_curve ≡ true → c ≡ blank_curve
+unfolding blank_curve
 blank_curve_is c e =
-    let fast = passed _ _ e in
-    let power = passed _ _ fast.1 in
-    let count = passed _ _ power.1 in
-    let p : c.power.0 ≡ 0 = omega (arith, ltb-false 0 c.power.0 power.0) in
-    let n : c.count ≡ 0 = omega (arith, ltb-false 0 c.count count.0) in
-    made c.fastest.0 c.power.0 c.count c.runs flat.runs (omega (arith, ltb-false 0 c.fastest.0 fast.0)) p n
-    (blank_runs c (goodb_good (quickened c) count.1) p n)
+    let fast = and_true _ _ e in
+    let power = and_true _ _ fast.1 in
+    let count = and_true _ _ power.1 in
+    made c.fastest.0 c.power.0 c.count c.runs (replicate 4 no_run) (eqb-true _ _ fast.0) (eqb-true _ _ power.0) (eqb-true _ _ count.0)
+    ((pointwise_decides run_decided c.runs (replicate 4 no_run)).0 count.1)
 
-pub is_blank_curve : curve_blank blank_curve ≡ true
-unfolding curve_blank blank_curve flat_of pick
-is_blank_curve = good_goodb flat flat_is_good
+pub is_blank_curve : same_curve blank_curve blank_curve ≡ true
+unfolding blank_curve
+is_blank_curve = refl
 
 -- ---- all curves
 module _ (b : Board) (good : curves_test b ≡ true) where
@@ -77,16 +73,23 @@ module _ (b : Board) (w : WellFormed b) where
   unfolding curves_test
   curves_pass = every_all (curve_test b) 64 curve_passes
 
--- ---- the ways of `curve_good` and `curve_blank`
+-- ---- the ways of `curve_good` and `link_good`
 pub curve_good_is : (parts p : ℕ) (c : Curve) (r : Bool) → p < parts → Decides r (Good c) → r ≡ curve_good parts p c
 unfolding curve_good pick
 curve_good_is parts p c r h good = rw (lt-ltb p parts h) (decides_goodb r c good)
 
-pub curve_blank_is :
-    (c : Curve) (r : Bool) → c.fastest.0 ≤ 0 → c.power.0 ≤ 0 → c.count ≤ 0 → Decides r (Good (quickened c)) → r ≡ curve_blank c
-unfolding curve_blank pick
-curve_blank_is c r quick idle flat good =
-    rw (le-ltb 0 c.fastest.0 quick, le-ltb 0 c.power.0 idle, le-ltb 0 c.count flat) (decides_goodb r (quickened c) good)
+pub curve_blank_is : (parts p : ℕ) (c blank : Curve) (r : Bool) → parts ≤ p → blank ≡ blank_curve → r ≡ same_curve c blank → r ≡ curve_good parts p c
+unfolding curve_good pick
+curve_blank_is parts p c blank r h none is = is ∙ rw (none, le-ltb p parts h)
+
+module _ (parts links l : ℕ) (before x : Link) (r : Bool) where
+  pub link_held_is : l < links → r ≡ link_held parts l before x → r ≡ link_good parts links l before x
+  unfolding link_good pick
+  link_held_is h is = rw (lt-ltb l links h) is
+
+  pub link_blank_is : (blank : Link) → links ≤ l → blank ≡ plain_link 0 0 → r ≡ same_link x blank → r ≡ link_good parts links l before x
+  unfolding link_good pick
+  link_blank_is blank h none is = is ∙ rw (none, le-ltb l links h)
 
 -- ---- the ways of `well_formed`
 refuses : (b : Board) → (WellFormed b → ⊥) → Decides false (WellFormed b)

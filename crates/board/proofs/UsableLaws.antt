@@ -1,29 +1,50 @@
 -- Rules: their numbers, and what each leaves of a deadline.
 -- Assumes nothing.
-use mathlib.Core.Path.{◌≡◌, refl}
+use mathlib.Core.Path.{◌≡◌, refl, ap, ◌∙◌}
+use mathlib.Core.Logic.{◌≢◌}
 use Prim.Native.Nat.{ℕ, zero, suc, ◌≤◌}
 use native.Mathlib.Omega.{arith}
+use borrow.Author.Tests.{ne_eqb}
+use Rattle.std.specs.Prelude.{Ok, Err}
 use Rattle.base.specs.Pick.{pick}
+use Rattle.refusal.specs.Refusal.{Answer, refusal_at, by}
+use Rattle.refusal.specs.declared.Refusal.{Refusal}
 use Rattle.board.specs.declared.Rule.{Rule}
 use Rattle.board.specs.declared.Rule.TheVariants.{A, B}
 use Rattle.board.specs.declared.Board.{Board}
-use Rattle.board.specs.Board.{WellFormed, rule_number, rule_of, usable_under, usable, under_rule}
+use Rattle.board.specs.Board.{WellFormed, rule_number, rule_named, usable_under, usable, under_rule}
 
 -- ---- numbers
 pub number_to : (r : Rule) → rule_number r ≤ 1
 number_to A = omega arith
 number_to B = omega arith
 
-pub rule_back : (r : Rule) → rule_of (rule_number r) ≡ r
-unfolding rule_of pick
+pub rule_back : (r : Rule) → rule_named (rule_number r) ≡ Ok r
+unfolding rule_named pick
 rule_back A = refl
 rule_back B = refl
 
-pub number_back : (n : ℕ) → n ≤ 1 → n ≡ rule_number (rule_of n)
-unfolding rule_of pick
-number_back zero h = refl
-number_back (suc zero) h = refl
-number_back (suc (suc n)) h = absurd (omega arith)
+-- a number that is taken is the number of its rule, and one that is refused is no rule's
+pub number_back : (n : ℕ) (r : Rule) → Ok r ≡ rule_named n → n ≡ rule_number r
+unfolding rule_named pick
+number_back zero A e = refl
+number_back zero B e = cc
+number_back (suc zero) A e = cc
+number_back (suc zero) B e = refl
+number_back (suc (suc n)) r e =
+    let past = rw (ne_eqb (suc (suc n)) 0 (λ h. omega arith), ne_eqb (suc (suc n)) 1 (λ h. omega arith)) at e in
+    cc
+
+pub no_number : (n : ℕ) (why : Refusal) → Err why ≡ rule_named n → (r : Rule) → n ≢ rule_number r
+no_number n why e r is = let back = rule_back r in let z : ◌≡◌ {A = Answer Rule} (Err why) (Ok r) = e ∙ ap rule_named is ∙ back in cc
+
+pub refused_22 : (n : ℕ) (why : Refusal) → Err why ≡ rule_named n → why ≡ refusal_at (by 22) 0
+unfolding rule_named pick
+refused_22 zero why e = cc
+refused_22 (suc zero) why e = cc
+refused_22 (suc (suc n)) why e =
+    let past = rw (ne_eqb (suc (suc n)) 0 (λ h. omega arith), ne_eqb (suc (suc n)) 1 (λ h. omega arith)) at e in
+    cc
 
 pub one_rule : (r r' : Rule) → rule_number r ≡ rule_number r' → r ≡ r'
 one_rule A A e = refl

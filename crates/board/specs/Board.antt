@@ -1,8 +1,9 @@
 -- 01, The board: "Parts: 1 to 64, numbered from 0. Links: 0 to 256, from one part to another, no link twice, none from a part to itself, no loop.
 -- Links are held in ascending order of from, then to. A link has no delay. Deadline: 1 to 4,095 ticks." 02, Req 06: the rule beside the deadline.
 -- Assumes nothing.
-use Rattle.std.specs.Prelude.{◌≡◌, ◌≢◌, [], ℕ, suc, ◌+◌, ◌*◌, ◌-◌, ◌/◌, ◌≤◌, ◌<◌, eqb, length, get_or, replicate}
+use Rattle.std.specs.Prelude.{◌≡◌, ◌≢◌, [], ℕ, suc, ◌+◌, ◌*◌, ◌-◌, ◌/◌, ◌≤◌, ◌<◌, eqb, length, get_or, replicate, Ok}
 use Rattle.base.specs.Pick.{pick}
+use Rattle.refusal.specs.Refusal.{Answer, refusal}
 use Rattle.theory.specs.Graph.{Graph}
 use Rattle.curve.specs.declared.Curve.{Curve}
 use Rattle.curve.specs.Curve.{Good, no_run, ticks_of, saving_of}
@@ -19,6 +20,10 @@ no_curve = record { fastest = record { 0 = 0 }; power = record { 0 = 0 }; count 
 abbrev pub plain_link : ℕ → ℕ → Link
 plain_link from to = record { from = from; to = to; delay = record { 0 = 0 } }
 
+-- a link the other way round
+abbrev pub turned_link : Link → Link
+turned_link l = record { from = l.to; to = l.from; delay = l.delay }
+
 abbrev pub no_link : Link
 no_link = plain_link 0 0
 
@@ -33,8 +38,9 @@ abbrev pub rule_number : Rule → ℕ
 rule_number A = 0
 rule_number B = 1
 
-unfoldable pub rule_of : ℕ → Rule
-rule_of number = pick (eqb number 0) A B
+-- refusal 22: "a rule that is neither A nor B"
+unfoldable pub rule_named : ℕ → Answer Rule
+rule_named number = pick (eqb number 0) (Ok A) (pick (eqb number 1) (Ok B) (refusal 22 0))
 
 -- 02, Req 06: "one tick in every full 64 ticks of deadline is guard: the usable deadline is the deadline less its whole-number quotient by 64.
 -- Rule A, all ticks usable, stays for the older boards"

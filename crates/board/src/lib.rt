@@ -2,21 +2,21 @@
 #![tactic(auto)]
 
 ghost use Rattle.std.specs.Prelude.{◌≡◌, ◌<◌};
-ghost use Rattle.curve.specs.Tests.{both};
-ghost use Rattle.board.specs.Board.{plain_link, delay_of, blank_curve, rule_number, rule_of, usable_under, usable, WellFormed};
-ghost use Rattle.board.specs.Tests.{Decides, blank_curves, blank_links, empty_of, below_of, link_blank, link_held, link_good, links_test, curve_blank, curve_good, curves_test};
+ghost use Rattle.board.specs.Board.{plain_link, turned_link, delay_of, blank_curve, rule_number, rule_named, usable_under, usable, WellFormed};
+ghost use Rattle.board.specs.Tests.{Decides, empty_of, below_of, link_held, link_good, links_test, curve_good, curves_test};
 
 use curve::{Curve, Microwatts, Ticks};
+use refusal::{Answer, Refusal, Why};
 
 // How many ticks of a deadline a path may take.
-#[derive(Clone, Copy)]
+#[derive(Clone, Copy, PartialEq, Eq)]
 pub enum Rule {
     A,
     B,
 }
 
 // A link leads from one part to another and takes ticks of its own.
-#[derive(Clone, Copy)]
+#[derive(Clone, Copy, PartialEq, Eq)]
 pub struct Link {
     pub from: usize,
     pub to: usize,
@@ -24,6 +24,7 @@ pub struct Link {
 }
 
 // There are `parts` parts and `links` links: the first of `curve` and of `link` are the board's, the others are blank.
+// Kept: (a) memory is fixed, so a load cannot fail for want of it: rows with their counts, and `WellFormed` says that what is past a count is blank.
 #[derive(Clone, Copy)]
 pub struct Board {
     pub rule: Rule,
@@ -34,19 +35,24 @@ pub struct Board {
     pub link: [Link; 256],
 }
 
+impl Link {
+    // The link the other way round.
+    pub fn turned(self) -> Link
+        ensures { result ≡ turned_link self }
+    {
+        Link {
+            from: self.to,
+            to: self.from,
+            delay: self.delay,
+        }
+    }
+}
+
 // What a place without a part holds.
 pub fn blank_curve() -> Curve
     ensures { result ≡ blank_curve }
 {
     Curve::flat(Ticks(0), Microwatts(0))
-}
-
-// All places without a part.
-fn blank_curves() -> [Curve; 64]
-    ensures { result ≡ blank_curves }
-{
-    let blank = blank_curve();
-    [blank; 64]
 }
 
 // A link without a delay.
@@ -58,54 +64,52 @@ pub fn plain_link(from: usize, to: usize) -> Link
 }
 
 // The ticks that a link takes.
+// Kept: (a) every reader of a delay goes by it: 02 has links with a delay of their own.
 pub fn link_delay(l: Link) -> Ticks
     ensures { result.0 ≡ delay_of l }
 {
     l.delay
 }
 
-// All places without a link.
-fn blank_links() -> [Link; 256]
-    ensures { result ≡ blank_links }
-{
-    let blank = plain_link(0, 0);
-    [blank; 256]
-}
-
 // A board to be filled: rule A, no links, and a blank curve at every part.
 pub fn empty(deadline: Ticks, parts: usize) -> Board
     ensures { result ≡ empty_of deadline parts }
 {
-    let curve = blank_curves();
-    let link = blank_links();
     Board {
         rule: Rule::A,
-        deadline: deadline,
-        parts: parts,
-        curve: curve,
+        deadline,
+        parts,
+        curve: [blank_curve(); 64],
         links: 0,
-        link: link,
+        link: [plain_link(0, 0); 256],
     }
 }
 
 // A rule's number: 0 for A, 1 for B.
-pub fn rule_number(rule: Rule) -> u32
-    ensures { result ≡ rule_number rule }
-{
-    match rule {
-        Rule::A => 0,
-        Rule::B => 1,
+impl From<Rule> for u32 {
+    ghost from_gives = { λ rule number. number ≡ rule_number rule };
+
+    fn from(rule: Rule) -> u32 {
+        match rule {
+            Rule::A => 0,
+            Rule::B => 1,
+        }
     }
 }
 
-// The rule that has a number; a number that is none gives B.
-pub fn rule_of(number: u32) -> Rule
-    ensures { result ≡ rule_of number }
-{
-    if number == 0 {
-        return Rule::A;
+// The rule that has a number, or refusal 22.
+impl TryFrom<u32> for Rule {
+    type Error = Refusal;
+
+    ghost try_from_gives = { λ number answer. answer ≡ rule_named number };
+
+    fn try_from(number: u32) -> Answer<Rule> {
+        match number {
+            0 => Ok(Rule::A),
+            1 => Ok(Rule::B),
+            _ => Err(Why::NoRule.at(0)),
+        }
     }
-    Rule::B
 }
 
 // The ticks of a deadline that a path may take.
@@ -126,42 +130,11 @@ pub fn usable_deadline(b: Board) -> Ticks
     usable_under(rule, b.deadline)
 }
 
-// 1 where link a stands before link x in the order of from, then to; else 0.
-pub fn below(a: Link, x: Link) -> usize
+// Whether link a stands before link x in the order of from, then to.
+pub fn below(a: Link, x: Link) -> bool
     ensures { result ≡ below_of a x }
 {
-    if a.from < x.from {
-        return 1;
-    }
-    if x.from < a.from {
-        return 0;
-    }
-    if a.to < x.to {
-        return 1;
-    }
-    0
-}
-
-// Two tests at once.
-fn both_hold(one: bool, other: bool) -> bool
-    ensures { result ≡ both one other }
-{
-    if one {
-        return other;
-    }
-    false
-}
-
-fn link_blank(l: Link) -> bool
-    ensures { result ≡ link_blank l }
-{
-    if 0 < l.from {
-        return false;
-    }
-    if 0 < l.to {
-        return false;
-    }
-    l.delay.0 == 0
+    (a.from, a.to) < (x.from, x.to)
 }
 
 // Whether link l, which is x, joins two of the parts, has no delay and stands above the one before it.
@@ -183,54 +156,32 @@ fn link_held(parts: usize, l: usize, before: Link, x: Link) -> bool
     if l == 0 {
         return true;
     }
-    below(before, x) == 1
+    below(before, x)
 }
 
-// Whether place l of the links, after `before`, holds what it should. A board would be copied for each place: two links will do.
+// Whether place l of the links, after `before`, holds what it should.
 fn link_good(parts: usize, links: usize, l: usize, before: Link, x: Link) -> bool
     ensures { result ≡ link_good parts links l before x }
 {
     if l < links {
         return link_held(parts, l, before, x);
     }
-    link_blank(x)
+    x == plain_link(0, 0)
 }
 
 // Whether every place of the links does.
-fn links_good(b: Board) -> bool
-    ensures { result ≡ links_test b }
+fn links_good(b: &Board) -> bool
+    ensures { result ≡ links_test b.now }
 {
-    let parts = b.parts;
-    let links = b.links;
     let mut before = b.link[0];
-    let mut good = true;
-    let mut l: usize = 0;
-    while l < 256 {
+    for l in 0..256 {
         let x = b.link[l];
-        good = both_hold(good, link_good(parts, links, l, before, x));
+        if !link_good(b.parts, b.links, l, before, x) {
+            return false;
+        }
         before = x;
-        l = l + 1;
     }
-    good
-}
-
-// Whether this is what a place without a part holds. With no runs, a curve of a fastest delay is good exactly when all its places are blank.
-fn curve_blank(c: Curve) -> bool
-    ensures { result ≡ curve_blank c }
-{
-    if 0 < c.fastest.0 {
-        return false;
-    }
-    if 0 < c.power.0 {
-        return false;
-    }
-    if 0 < c.count {
-        return false;
-    }
-    let tick = Ticks(1);
-    let mut flat = c;
-    flat.fastest = tick;
-    flat.is_good()
+    true
 }
 
 // Whether place p of the curves holds what it should.
@@ -240,22 +191,19 @@ fn curve_good(parts: usize, p: usize, c: Curve) -> bool
     if p < parts {
         return c.is_good();
     }
-    curve_blank(c)
+    c == blank_curve()
 }
 
 // Whether every place of the curves does.
-fn curves_good(b: Board) -> bool
-    ensures { result ≡ curves_test b }
+fn curves_good(b: &Board) -> bool
+    ensures { result ≡ curves_test b.now }
 {
-    let parts = b.parts;
-    let mut good = true;
-    let mut p: usize = 0;
-    while p < 64 {
-        let c = b.curve[p];
-        good = both_hold(good, curve_good(parts, p, c));
-        p = p + 1;
+    for p in 0..64 {
+        if !curve_good(b.parts, p, b.curve[p]) {
+            return false;
+        }
     }
-    good
+    true
 }
 
 // Whether this is a board as 01 asks it to be, but for loops.
@@ -277,8 +225,8 @@ pub fn well_formed(b: Board) -> bool
     if 256 < b.links {
         return false;
     }
-    if !curves_good(b) {
+    if !curves_good(&b) {
         return false;
     }
-    links_good(b)
+    links_good(&b)
 }

@@ -1,21 +1,21 @@
 -- The ways through the making of a budget: delays, powers, total.
 -- Assumes nothing.
-use mathlib.Core.Path.{◌≡◌, refl, ap, ◌∙◌}
+use mathlib.Core.Path.{◌≡◌, refl, sym, ap, ◌∙◌}
 use mathlib.Core.List.{List}
 use Prim.Native.Nat.{ℕ, min, ◌+◌, ◌-◌, ◌*◌, ◌≤◌, ◌<◌}
 use native.Mathlib.Omega.{arith}
 use lib.ListN.{set}
+use Rattle.std.specs.Prelude.{Ok, Err}
+use Rattle.std.specs.Result.{result_unwrap_or}
 use Rattle.base.specs.Table.{table}
 use Rattle.base.proofs.Cases.{finished}
 use Rattle.base.proofs.TableLaws.{firsts_none, firsts_more, firsts_cut, firsts_done}
 use Rattle.theory.specs.Sum.{sum}
 use Rattle.theory.proofs.SumLaws.{sum_next}
-use Rattle.refusal.specs.declared.Why.{Why}
+use Rattle.refusal.specs.Refusal.{Answer}
 use Rattle.curve.specs.declared.Ticks.{Ticks}
 use Rattle.curve.specs.declared.Microwatts.{Microwatts}
 use Rattle.curve.specs.declared.Curve.{Curve}
-use Rattle.curve.specs.declared.Power.{Power}
-use Rattle.curve.specs.declared.Power.TheVariants.{At, Refused}
 use Rattle.curve.specs.Curve.{slowest_of, power_of}
 use Rattle.curve.specs.Answers.{power_at_of}
 use Rattle.curve.specs.Rows.{no_ticks, no_power, ticks_at, power_at, powers_row}
@@ -34,14 +34,14 @@ none_made d w ed ew = rw (ed, ew)
 
 -- ---- power_of
 module _ (c : Curve) (d : ℕ) where
-  module _ (power : Power) (is : power ≡ power_at_of c d) where
-    pub power_there : (p : Microwatts) → power ≡ At p → p.0 ≡ drawn_of c d
-    unfolding drawn_of
-    power_there p e = rw (← is, e)
+  drawn_by : (a : Answer Microwatts) → power_at_of c d ≡ a → (result_unwrap_or a (record { 0 = 0 })).0 ≡ drawn_of c d
+  unfolding drawn_of
+  drawn_by (Ok p) e = rw e
+  drawn_by (Err why) e = rw e
 
-    pub power_refused : (why : Why) (place : ℕ) → power ≡ Refused why place → 0 ≡ drawn_of c d
-    unfolding drawn_of
-    power_refused why place e = rw (← is, e)
+  -- what it gives, or nothing
+  pub power_or_none : (a : Answer Microwatts) (r : Microwatts) → a ≡ power_at_of c d → r ≡ result_unwrap_or a (record { 0 = 0 }) → r.0 ≡ drawn_of c d
+  power_or_none a r is got = rw got (drawn_by a (sym is))
 
   -- on the curve it is the power there
   pub drawn_on : c.fastest.0 ≤ d → d ≤ slowest_of c → drawn_of c d ≡ power_of c d

@@ -1,14 +1,13 @@
 -- The budget with given starts and ends, whatever they are, and its times as the mathematics has them.
 -- Assumes nothing.
-use Rattle.std.specs.Prelude.{List, ℕ, min, ◌-◌}
+use Rattle.std.specs.Prelude.{List, ℕ, min, ◌-◌, Ok, Err}
 use Rattle.base.specs.Table.{table}
+use Rattle.refusal.specs.Refusal.{Answer}
 use Rattle.theory.specs.Sum.{sum}
 use Rattle.theory.specs.Graph.{Times}
 use Rattle.curve.specs.declared.Ticks.{Ticks}
 use Rattle.curve.specs.declared.Microwatts.{Microwatts}
 use Rattle.curve.specs.declared.Curve.{Curve}
-use Rattle.curve.specs.declared.Power.{Power}
-use Rattle.curve.specs.declared.Power.TheVariants.{At, Refused}
 use Rattle.curve.specs.Answers.{power_at_of}
 use Rattle.curve.specs.Rows.{no_ticks, no_power, ticks_at, power_at, ticks_row, powers_row}
 use Rattle.board.specs.declared.Board.{Board}
@@ -16,9 +15,9 @@ use Rattle.board.specs.Board.{curve_at, view}
 use Rattle.budget.specs.declared.Budget.{Budget}
 
 -- what a part draws at a delay: nothing at one that its curve does not have
-abbrev drawn : Power → ℕ
-drawn (At p) = p.0
-drawn (Refused why place) = 0
+abbrev drawn : Answer Microwatts → ℕ
+drawn (Ok p) = p.0
+drawn (Err e) = 0
 
 unfoldable pub drawn_of : Curve → ℕ → ℕ
 drawn_of c d = drawn (power_at_of c d)

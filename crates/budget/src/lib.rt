@@ -5,16 +5,16 @@
 ghost use Rattle.std.specs.Prelude.{◌≡◌, ◌+◌, ◌≤◌};
 ghost use Rattle.budget.specs.Made.{no_budget, drawn_of, delays_of, powers_of, total_of, budget_of};
 
-use base::lesser;
 use board::Board;
-use curve::{Curve, Microwatts, Power, Ticks, no_powers, no_ticks};
+use curve::{Curve, Microwatts, Ticks};
 
 // The power of all parts together, in microwatts.
-#[derive(Clone, Copy)]
+#[derive(Clone, Copy, PartialEq, Eq, PartialOrd, Ord)]
 pub struct Total(pub u64);
 
 // Places without a part hold 0.
-#[derive(Clone, Copy)]
+// Kept: (d) columns: `budget_of` is given two and makes two more of them, and each is read alone.
+#[derive(Clone, Copy, PartialEq, Eq)]
 pub struct Budget {
     pub start: [Ticks; 64],
     pub delay: [Ticks; 64],
@@ -27,13 +27,12 @@ pub struct Budget {
 pub fn no_budget() -> Budget
     ensures { result ≡ no_budget }
 {
-    let none = no_ticks();
-    let power = no_powers();
+    let none = [Ticks(0); 64];
     Budget {
         start: none,
         delay: none,
         end: none,
-        power: power,
+        power: [Microwatts(0); 64],
         total: Total(0),
     }
 }
@@ -42,11 +41,7 @@ pub fn no_budget() -> Budget
 fn power_of(c: Curve, delay: Ticks) -> Microwatts
     ensures { result.0 ≡ drawn_of c delay.0 }
 {
-    let power = c.power_at(delay);
-    match power {
-        Power::At(p) => p,
-        Power::Refused { why: _, place: _ } => Microwatts(0),
-    }
+    c.power_at(delay).unwrap_or(Microwatts(0))
 }
 
 // A total with one part's power more.
@@ -58,44 +53,37 @@ fn with_power(total: Total, power: Microwatts) -> Total
 }
 
 // Each part's delay, from its start to its end.
-fn delays(n: usize, start: [Ticks; 64], end: [Ticks; 64]) -> [Ticks; 64]
+fn delays(n: usize, start: &[Ticks; 64], end: &[Ticks; 64]) -> [Ticks; 64]
     requires { n ≤ 64 }
-    ensures { result ≡ delays_of n start end }
+    ensures { result ≡ delays_of n start.now end.now }
 {
-    let mut d = no_ticks();
-    let mut k: usize = 0;
-    while k < n {
+    let mut d = [Ticks(0); 64];
+    for k in 0..n {
         d[k] = end[k].less(start[k]);
-        k = k + 1;
     }
     d
 }
 
 // Each part's power at its delay.
-fn powers(b: Board, delay: [Ticks; 64]) -> [Microwatts; 64]
-    ensures { result ≡ powers_of b delay }
+fn powers(b: &Board, delay: &[Ticks; 64]) -> [Microwatts; 64]
+    ensures { result ≡ powers_of b.now delay.now }
 {
-    let n = lesser(b.parts, 64);
-    let mut w = no_powers();
-    let mut k: usize = 0;
-    while k < n {
-        let c = b.curve[k];
-        w[k] = power_of(c, delay[k]);
-        k = k + 1;
+    let n = b.parts.min(64);
+    let mut w = [Microwatts(0); 64];
+    for k in 0..n {
+        w[k] = power_of(b.curve[k], delay[k]);
     }
     w
 }
 
 // The sum of the powers.
-fn total_of(n: usize, power: [Microwatts; 64]) -> Total
+fn total_of(n: usize, power: &[Microwatts; 64]) -> Total
     requires { n ≤ 64 }
-    ensures { result.0 ≡ total_of n power }
+    ensures { result.0 ≡ total_of n power.now }
 {
     let mut sum = Total(0);
-    let mut p: usize = 0;
-    while p < n {
+    for p in 0..n {
         sum = with_power(sum, power[p]);
-        p = p + 1;
     }
     sum
 }
@@ -104,15 +92,15 @@ fn total_of(n: usize, power: [Microwatts; 64]) -> Total
 pub fn budget_of(b: Board, start: [Ticks; 64], end: [Ticks; 64]) -> Budget
     ensures { result ≡ budget_of b start end }
 {
-    let n = lesser(b.parts, 64);
-    let delay = delays(n, start, end);
-    let power = powers(b, delay);
-    let all = total_of(n, power);
+    let n = b.parts.min(64);
+    let delay = delays(n, &start, &end);
+    let power = powers(&b, &delay);
+    let total = total_of(n, &power);
     Budget {
-        start: start,
-        delay: delay,
-        end: end,
-        power: power,
-        total: all,
+        start,
+        delay,
+        end,
+        power,
+        total,
     }
 }

@@ -1,119 +1,82 @@
 // What is held, each fact on a line. A request that brings another line adds it to `put_held`.
-use crate::{Told, asking, writing};
+use crate::{Talk, asking, writing};
 use board::Rule;
-use console::{Out, PAGE};
+use console::Out;
 use desk::Desk;
+use refusal::Answer;
 use report::Row;
 
-pub(crate) fn state(out: &mut Out, page: &mut [u8; PAGE], at: usize, d: Desk) -> Told {
-    if d.held {
-        return crate::whole_call(put_held(out, page, at, d));
+pub(crate) fn state(talk: &mut Talk, d: Desk) -> Option<()> {
+    if d.held.is_some() {
+        return put_held(&mut talk.out, d).ok();
     }
-    crate::whole_call(console::text(out, page, at, b"held 0\n"))
+    talk.out.text(b"held 0\n");
+    Some(())
 }
 
-fn put_held(out: &mut Out, page: &mut [u8; PAGE], at: usize, d: Desk) -> usize {
-    let whole = questions::whole(d);
-    let rule = whole.rule;
-    let held = console::text(out, page, at, b"held 1\n");
-    let ruled = put_rule(out, page, held, rule);
-    let due = console::number(out, page, ruled, b"deadline ", whole.deadline.0 as u64);
-    let usable = console::number(out, page, due, b" usable ", whole.usable.0 as u64);
-    let named = console::text(out, page, usable, b"\nfile ");
-    let filed = writing::put_file(out, page, named, d);
-    let ended = console::end_line(out, page, filed);
-    let parts = put_parts(out, page, ended, d, whole.parts);
-    let total = console::number(out, page, parts, b"total ", whole.total.0);
-    let summed = console::end_line(out, page, total);
-    let links = put_links(out, page, summed, d, whole.links);
-    put_sets(out, page, links, d, whole.parts)
+// No question about what is held is refused.
+fn put_held(out: &mut Out, d: Desk) -> Answer {
+    let whole = questions::whole(d)?;
+    out.text(b"held 1\n");
+    put_rule(out, whole.rule);
+    out.number(b"deadline ", whole.deadline.0 as u64);
+    out.number(b" usable ", whole.usable.0 as u64);
+    out.text(b"\nfile ");
+    writing::put_file(out, d)?;
+    out.end_line();
+    for p in 0..whole.parts {
+        put_part(out, d, p)?;
+    }
+    out.number(b"total ", whole.total.0);
+    out.end_line();
+    for l in 0..whole.links {
+        put_link(out, d, l)?;
+    }
+    for p in 0..whole.parts {
+        put_sets(out, d, p)?;
+    }
+    Ok(())
 }
 
-fn put_rule(out: &mut Out, page: &mut [u8; PAGE], at: usize, rule: Rule) -> usize {
+fn put_rule(out: &mut Out, rule: Rule) {
     match rule {
-        Rule::A => console::text(out, page, at, b"rule A\n"),
-        Rule::B => console::text(out, page, at, b"rule B\n"),
+        Rule::A => out.text(b"rule A\n"),
+        Rule::B => out.text(b"rule B\n"),
     }
 }
 
-fn put_parts(out: &mut Out, page: &mut [u8; PAGE], at: usize, d: Desk, parts: usize) -> usize {
-    let mut end = at;
-    let mut p: usize = 0;
-    while p < parts {
-        end = put_part(out, page, end, d, p);
-        p = p + 1;
-    }
-    end
-}
-
-fn put_part(out: &mut Out, page: &mut [u8; PAGE], at: usize, d: Desk, p: usize) -> usize {
-    let asked = questions::part(d, p);
-    let start = asked.start;
-    let delay = asked.delay;
-    let end = asked.end;
-    let power = asked.power;
+fn put_part(out: &mut Out, d: Desk, p: usize) -> Answer {
+    let part = questions::part(d, p)?;
     let row = Row {
         part: p,
-        start,
-        delay,
-        end,
-        power,
+        start: part.start,
+        delay: part.delay,
+        end: part.end,
+        power: part.power,
     };
-    report::put_row(out, page, at, row)
+    report::put_row(out, row);
+    Ok(())
 }
 
-fn put_links(out: &mut Out, page: &mut [u8; PAGE], at: usize, d: Desk, links: usize) -> usize {
-    let mut end = at;
-    let mut l: usize = 0;
-    while l < links {
-        end = put_link(out, page, end, d, l);
-        l = l + 1;
+fn put_link(out: &mut Out, d: Desk, l: usize) -> Answer {
+    if let Some(link) = questions::link(d, l)? {
+        out.number(b"link ", link.from as u64);
+        out.number(b" ", link.to as u64);
+        out.number(b" critical ", link.critical as u64);
+        out.end_line();
     }
-    end
+    Ok(())
 }
 
-fn put_link(out: &mut Out, page: &mut [u8; PAGE], at: usize, d: Desk, l: usize) -> usize {
-    let asked = questions::link(d, l);
-    let from = console::number(out, page, at, b"link ", asked.from as u64);
-    let to = console::number(out, page, from, b" ", asked.to as u64);
-    if asked.critical {
-        return console::text(out, page, to, b" critical 1\n");
-    }
-    console::text(out, page, to, b" critical 0\n")
-}
-
-fn put_sets(out: &mut Out, page: &mut [u8; PAGE], at: usize, d: Desk, parts: usize) -> usize {
-    let mut end = at;
-    let mut p: usize = 0;
-    while p < parts {
-        end = put_set(out, page, end, d, p);
-        p = p + 1;
-    }
-    end
-}
-
-fn put_set(out: &mut Out, page: &mut [u8; PAGE], at: usize, d: Desk, p: usize) -> usize {
-    let up = questions::upstream(d, p).cone;
-    let down = questions::downstream(d, p).cone;
-    let family = questions::family(d, p);
-    let named = console::number(out, page, at, b"sets ", p as u64);
-    let above = asking::put_marked(out, page, named, b" up ", up.set, up.count);
-    let below = asking::put_marked(out, page, above, b" down ", down.set, down.count);
-    let parents = asking::put_marked(
-        out,
-        page,
-        below,
-        b" parents ",
-        family.parents.set,
-        family.parents.count,
-    );
-    let children = asking::put_marked(
-        out,
-        page,
-        parents,
-        b" children ",
-        family.children.set,
-        family.children.count,
-    );
-    console::end_line(out, page, children)
+fn put_sets(out: &mut Out, d: Desk, p: usize) -> Answer {
+    let up = questions::upstream(d, p)?;
+    let down = questions::downstream(d, p)?;
+    let family = questions::family(d, p)?;
+    out.number(b"sets ", p as u64);
+    asking::put_marked(out, b" up ", up);
+    asking::put_marked(out, b" down ", down);
+    asking::put_marked(out, b" parents ", family.parents);
+    asking::put_marked(out, b" children ", family.children);
+    out.end_line();
+    Ok(())
 }

@@ -6,7 +6,7 @@ use Prim.Native.Nat.{ℕ}
 use lib.ListN.{length}
 use Rattle.base.specs.Pick.{pick}
 use Rattle.base.specs.Table.{table}
-use Rattle.refusal.specs.declared.Answer.TheVariants.{Done}
+use Rattle.std.specs.Prelude.{Ok}
 use Rattle.theory.specs.Sum.{sum, share}
 use Rattle.theory.specs.Saving.{tick}
 use Rattle.theory.specs.Budget.{greatest, arrive}
@@ -18,12 +18,13 @@ use Rattle.board.specs.declared.Board.{Board}
 use Rattle.board.specs.Board.{usable, view, blank_curve, usable_under, delay_of}
 use Rattle.board.specs.Tests.{blank_curves, blank_links, below_of}
 use Rattle.edits.specs.Edits.{count_before, place_of, some, same_ends, has_link_of, filled, inserted_at, inserted_of, removed_at, removed_of, addable, with_deadline_of, with_link_of, without_link_of}
-use Rattle.fields.specs.Parse.{got, and_then, repeat, ranged_at, field_at}
+use Rattle.groups.specs.Parse.{got}
+use Rattle.fields.specs.Parse.{and_then, repeat, ranged_at, field_at}
 use Rattle.fields.specs.Writing.{in_row}
 use Rattle.fields.specs.CurveFile.{bare, falls, run_from, runs_from, curve_from, runs_bytes, curve_bytes}
 use Rattle.design.specs.Design.{version_at, in_place, part_from, parts_from, above, link_from, links_from, whole_at, linked_from, body_from, head_from, design_of, parts_bytes, links_bytes, linked_bytes, body_bytes, head_bytes, file_of}
-use Rattle.orders.specs.declared.Change.TheVariants.{Deadline, AddLink, RemoveLink}
-use Rattle.orders.specs.Order.{plainly, deadline_from, kind_from, order_of}
+use Rattle.orders.specs.declared.Order.TheVariants.{Deadline, AddLink, RemoveLink}
+use Rattle.orders.specs.Order.{deadline_from, kind_from, order_of}
 use Rattle.orders.specs.Order as orders
 use Rattle.desk.specs.Order.{changed_of, place_tried}
 use Rattle.cases.specs.Boards.{curve, link, board, curves_K, K, D, flat, long}
@@ -70,15 +71,15 @@ facts = record {
 
 -- ---- the orders of cases (8), (9) and (10)
 pub record Changes : Type 0 where
-  pub add_reads : order_of (2 ∷ 3 ∷ 1 ∷ []) ≡ got (plainly (AddLink 3 1)) 3
-  pub add : changed_of K (plainly (AddLink 3 1)) ≡ linked_K 10
-  pub add_fits : place_tried K (AddLink 3 1) ≡ Done
-  pub shorten_reads : order_of (1 ∷ 9 ∷ []) ≡ got (plainly (Deadline (record { 0 = 9 }))) 2
-  pub shorten_linked : changed_of (linked_K 10) (plainly (Deadline (record { 0 = 9 }))) ≡ linked_K 9
-  pub remove_reads : order_of (3 ∷ 3 ∷ 1 ∷ []) ≡ got (plainly (RemoveLink 3 1)) 3
-  pub remove : changed_of (linked_K 10) (plainly (RemoveLink 3 1)) ≡ K
-  pub remove_fits : place_tried (linked_K 10) (RemoveLink 3 1) ≡ Done
-  pub shorten : changed_of K (plainly (Deadline (record { 0 = 9 }))) ≡ shorter_K
+  pub add_reads : order_of (2 ∷ 3 ∷ 1 ∷ []) ≡ got (AddLink 3 1) 3
+  pub add : changed_of K (AddLink 3 1) ≡ linked_K 10
+  pub add_fits : place_tried K (AddLink 3 1) ≡ Ok tt
+  pub shorten_reads : order_of (1 ∷ 9 ∷ []) ≡ got (Deadline (record { 0 = 9 })) 2
+  pub shorten_linked : changed_of (linked_K 10) (Deadline (record { 0 = 9 })) ≡ linked_K 9
+  pub remove_reads : order_of (3 ∷ 3 ∷ 1 ∷ []) ≡ got (RemoveLink 3 1) 3
+  pub remove : changed_of (linked_K 10) (RemoveLink 3 1) ≡ K
+  pub remove_fits : place_tried (linked_K 10) (RemoveLink 3 1) ≡ Ok tt
+  pub shorten : changed_of K (Deadline (record { 0 = 9 })) ≡ shorter_K
 
 pub changes : Changes
 unfolding changed_of with_deadline_of with_link_of without_link_of addable has_link_of same_ends some place_of count_before inserted_of inserted_at removed_of removed_at filled

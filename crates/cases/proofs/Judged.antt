@@ -6,9 +6,8 @@ use mathlib.Core.List.{List, []}
 use Prim.Native.Nat.{ℕ, suc, ◌+◌, ◌<◌}
 use lib.ListN.{length}
 use Rattle.base.specs.Pick.{pick}
-use Rattle.refusal.specs.declared.Answer.{Answer}
-use Rattle.refusal.specs.declared.Answer.TheVariants.{Done}
-use Rattle.refusal.specs.Refusal.{refusal, among}
+use Rattle.std.specs.Prelude.{Some, Ok, replicate}
+use Rattle.refusal.specs.Refusal.{Answer, refusal, among}
 use Rattle.theory.specs.Graph.{Ranked}
 use Rattle.theory.specs.Budget as theory
 use Rattle.theory.proofs.TimedLaws.{possible}
@@ -26,7 +25,7 @@ use Rattle.budget.specs.declared.Budget.{Budget}
 use Rattle.budget.specs.Budget.{Holds}
 use Rattle.budget.specs.Made.{value_of}
 use Rattle.budget.proofs.BudgetLaws.{holds_once, value_holds}
-use Rattle.fields.specs.Parse.{Parse, got}
+use Rattle.groups.specs.Parse.{Parse, got}
 use Rattle.design.specs.Design.{design_of, file_of}
 use Rattle.design.proofs.DesignLaws.{design_well_formed}
 use Rattle.orders.specs.declared.Order.{Order}
@@ -39,7 +38,7 @@ use Rattle.desk.specs.declared.Desk.{Desk}
 use Rattle.desk.specs.declared.Loaded.{Loaded}
 use Rattle.desk.specs.declared.Ordered.{Ordered}
 use Rattle.desk.specs.Held.{Holding}
-use Rattle.desk.specs.Empty.{no_advice}
+use Rattle.desk.specs.declared.Held.{Held}
 use Rattle.desk.specs.Judged.{BoardJudged}
 use Rattle.desk.specs.Load.{no_tally, load_refused, tally_loaded, LoadJudged, LoadParsed, LoadSaid}
 use Rattle.desk.specs.Load as load
@@ -71,7 +70,7 @@ module _ (b : Board) (delays : List ℕ) (k : Known b delays) where
   known_free : LoopFree b
   known_free = ranked_loop_free b (suc (usable b)) known_ranked
 
-  known_done : {a : Answer} {path : List ℕ} → Verdict b a path → a ≡ Done
+  known_done : {a : Answer Unit} {path : List ℕ} → Verdict b a path → a ≡ Ok tt
   known_done = verdict_done b known_formed known_free known_budget
 
   -- all at fastest it is in time, since it has a budget
@@ -85,7 +84,7 @@ module _ (b : Board) (delays : List ℕ) (k : Known b delays) where
         within = (possible (view b) (lawful b known_formed) t).0 (times_by (view b) delays, known_budget);
       }
 
-  known_fine : Verdict b Done []
+  known_fine : Verdict b (Ok tt) []
   known_fine = verdict.fine known_free known_in_time
 
   pub known_holds : Holds b (value_of b (times_by (view b) delays))
@@ -94,19 +93,22 @@ module _ (b : Board) (delays : List ℕ) (k : Known b delays) where
       (best_held (view b) (lawful b known_formed) (usable b) delays k.test)
 
   -- a desk that holds the board
+  known_held : Held
+  known_held = record { board = b; budget = value_of b (times_by (view b) delays); flow = replicate 448 0 }
+
   pub known_desk : Desk
-  known_desk = record { held = true; board = b; budget = value_of b (times_by (view b) delays); advice = no_advice }
+  known_desk = record { held = Some known_held }
 
   -- so it is put on any desk
-  known_judged : (d : Desk) → BoardJudged b d Done (trail_of []) known_desk
-  unfolding known_desk
+  known_judged : (d : Desk) → BoardJudged b d (Ok tt) (trail_of []) known_desk
+  unfolding known_held known_desk
   known_judged d = record {
     shown = [];
     verdict = known_fine;
     listed = refl;
-    stays = λ why place e. never (sym e);
+    stays = λ x e. never (sym e);
+    holding = λ e. record { held = known_held; is = refl; kept = record { formed = known_formed; free = known_free; holds = known_holds } };
     board = λ e. refl;
-    holding = λ e. record { held = refl; kept = record { formed = known_formed; free = known_free; holds = known_holds } };
   }
 
 -- ---- a board that shows a path too slow
@@ -121,12 +123,12 @@ module _ (b : Board) (ticks : ℕ) (path : List ℕ) (k : Slow b ticks path) (d 
     shown = path;
     verdict = verdict.slow k.free k.shown;
     listed = refl;
-    stays = λ why place e. refl;
-    board = λ e. never e;
+    stays = λ x e. refl;
     holding = λ e. never e;
+    board = λ e. never e;
   }
 
-  module _ {a : Answer} {shown : Trail} {d' : Desk} (j : BoardJudged b d a shown d') where
+  module _ {a : Answer Unit} {shown : Trail} {d' : Desk} (j : BoardJudged b d a shown d') where
     slow_answer : a ≡ refusal 10 ticks
     slow_answer = (verdict_once b k.formed j.verdict (verdict.slow k.free k.shown)).answer
 
@@ -134,20 +136,20 @@ module _ (b : Board) (ticks : ℕ) (path : List ℕ) (k : Slow b ticks path) (d 
     slow_path = j.listed ∙ ap trail_of (verdict_once b k.formed j.verdict (verdict.slow k.free k.shown)).listed
 
     slow_stays : d' ≡ d
-    slow_stays = j.stays _ _ slow_answer
+    slow_stays = j.stays _ slow_answer
 
 -- ---- a desk that holds the board b, with so many orders counted
 pub record At (b : Board) (counted : Tally) (d : Desk) (t : Tally) : Type 0 where
-  pub board : d.board ≡ b
   pub holding : Holding d
+  pub board : holding.held.board ≡ b
   pub tally : t ≡ counted
 
 pub at_budget :
-    (b : Board) (delays : List ℕ) → Known b delays → {n : Tally} {d : Desk} {t : Tally} → At b n d t →
-    d.budget ≡ value_of b (times_by (view b) delays)
+    (b : Board) (delays : List ℕ) → Known b delays → {n : Tally} {d : Desk} {t : Tally} (a : At b n d t) →
+    a.holding.held.budget ≡ value_of b (times_by (view b) delays)
 at_budget b delays k {d = d} a =
-    holds_once b (known_formed b delays k) d.budget (value_of b (times_by (view b) delays))
-    (subst (λ (x : Board). Holds x d.budget) a.board a.holding.kept.holds)
+    holds_once b (known_formed b delays k) a.holding.held.budget (value_of b (times_by (view b) delays))
+    (subst (λ (x : Board). Holds x a.holding.held.budget) a.board a.holding.kept.holds)
     (known_holds b delays k)
 
 -- ---- loads
@@ -159,20 +161,20 @@ module _ (b : Board) (d : Desk) (t : Tally) (read : design_of A (file_of b) ≡ 
   load_said r j = load.ruled A refl (record { parsed = subst (λ (p : Parse Board). LoadParsed p d t r) (sym read) j })
 
 module _ (b : Board) (delays : List ℕ) (k : Known b delays) (d : Desk) (t : Tally) where
-  accepted : (r : Loaded) → LoadJudged b d t r → (r.answer ≡ Done) × At b no_tally r.desk r.tally
+  accepted : (r : Loaded) → LoadJudged b d t r → (r.answer ≡ Ok tt) × At b no_tally r.desk r.tally
   accepted r j =
       let done = known_done b delays k j.judged.verdict in (
         done,
         record {
-          board = j.judged.board done;
           holding = j.judged.holding done;
-          tally = j.tally ∙ ap (λ (a : Answer). tally_loaded a t) done;
+          board = j.judged.board done;
+          tally = j.tally ∙ ap (λ (a : Answer Unit). tally_loaded a t) done;
         },
       )
 
-  pub load_accepted : Comes (LoadSaid d 0 (file_of b) t) (λ r. (r.answer ≡ Done) × At b no_tally r.desk r.tally)
+  pub load_accepted : Comes (LoadSaid d 0 (file_of b) t) (λ r. (r.answer ≡ Ok tt) × At b no_tally r.desk r.tally)
   load_accepted = record {
-    result = record { answer = Done; path = trail_of []; desk = known_desk b delays k; tally = no_tally };
+    result = record { answer = Ok tt; path = trail_of []; desk = known_desk b delays k; tally = no_tally };
     said = load_said b d t k.read _ (record { judged = known_judged b delays k d; tally = refl });
     only = λ r said. accepted r (load_judged b d t k.read r said);
   }
@@ -183,7 +185,7 @@ module _ (b : Board) (read : design_of A (file_of b) ≡ got b (length (file_of 
     refused = slow_answer b ticks path k d j.judged;
     path_is = slow_path b ticks path k d j.judged;
     desk_stays = slow_stays b ticks path k d j.judged;
-    tally_stays = j.tally ∙ ap (λ (a : Answer). tally_loaded a t) (slow_answer b ticks path k d j.judged);
+    tally_stays = j.tally ∙ ap (λ (a : Answer Unit). tally_loaded a t) (slow_answer b ticks path k d j.judged);
   }
 
   pub load_refused_lem : Comes (LoadSaid d 0 (file_of b) t) (λ r. LoadRefused d t r 10 ticks path)
@@ -195,7 +197,7 @@ module _ (b : Board) (read : design_of A (file_of b) ≡ got b (length (file_of 
 
 -- ---- orders, from a desk that holds b
 pub record Made (r : Ordered) (took : ℕ) (b : Board) (counted : Tally) : Type 0 where
-  pub done : r.answer ≡ Done
+  pub done : r.answer ≡ Ok tt
   pub took_is : r.took ≡ took
   pub path_is : r.path ≡ trail_of []
   pub at : At b counted r.desk r.tally
@@ -211,32 +213,35 @@ counted_slow : (ticks : ℕ) (t : Tally) → tally_ordered (refusal 10 ticks) t 
 unfolding refused_tally among pick
 counted_slow ticks t = refl
 
-done_path : (b : Board) → WellFormed b → Verdict b Done [] → {a : Answer} {path : List ℕ} → Verdict b a path → path ≡ []
+done_path : (b : Board) → WellFormed b → Verdict b (Ok tt) [] → {a : Answer Unit} {path : List ℕ} → Verdict b a path → path ≡ []
 done_path b w accepted v = (verdict_once b w v accepted).listed
 
 module _ (b : Board) (n : Tally) (d : Desk) (t : Tally) (at : At b n d t) (room : n.taken + n.refused < 65535) (bytes : List ℕ) (o : Order) (took : ℕ)
-    (reads : order_of bytes ≡ got o took) (fits : place_tried b o.change ≡ Done) (b' : Board) (changed : changed_of b o ≡ b')
+    (reads : order_of bytes ≡ got o took) (fits : place_tried b o ≡ Ok tt) (b' : Board) (changed : changed_of b o ≡ b')
   where
-    tried : tried_of d t o ≡ Done
-    tried = passed_tried d t o (record {
-      held = at.holding.held;
+    abbrev held : Held
+    held = at.holding.held
+
+    tried : tried_of d t o ≡ Ok held
+    tried = passed_tried d t o held (record {
+      held = at.holding.is;
       room = rw at.tally room;
-      place = ap (λ (x : Board). place_tried x o.change) at.board ∙ fits;
+      place = ap (λ (x : Board). place_tried x o) at.board ∙ fits;
     })
 
-    as_ordered : changed_of d.board o ≡ b'
+    as_ordered : changed_of held.board o ≡ b'
     as_ordered = ap (λ (x : Board). changed_of x o) at.board ∙ changed
 
     order_judged : (r : Ordered) → OrderSaid d bytes t r → OrderJudged b' d t took r
     order_judged r said =
         let parsed : OrderTried (tried_of d t o) d t o took r = subst (λ (p : Parse Order). OrderParsed p d t r) reads said.parsed in
-        let judged : OrderJudged (changed_of d.board o) d t took r = subst (λ (a : Answer). OrderTried a d t o took r) tried parsed in
+        let judged : OrderJudged (changed_of held.board o) d t took r = subst (λ (a : Answer Held). OrderTried a d t o took r) tried parsed in
         subst (λ (x : Board). OrderJudged x d t took r) as_ordered judged
 
     order_said : (r : Ordered) → OrderJudged b' d t took r → OrderSaid d bytes t r
     order_said r j =
-        let judged : OrderTried Done d t o took r = subst (λ (x : Board). OrderJudged x d t took r) (sym as_ordered) j in
-        let parsed : OrderParsed (got o took) d t r = subst (λ (a : Answer). OrderTried a d t o took r) (sym tried) judged in
+        let judged : OrderTried (Ok held) d t o took r = subst (λ (x : Board). OrderJudged x d t took r) (sym as_ordered) j in
+        let parsed : OrderParsed (got o took) d t r = subst (λ (a : Answer Held). OrderTried a d t o took r) (sym tried) judged in
         record { parsed = subst (λ (p : Parse Order). OrderParsed p d t r) (sym reads) parsed }
 
     module _ (delays : List ℕ) (k : Known b' delays) where
@@ -248,15 +253,15 @@ module _ (b : Board) (n : Tally) (d : Desk) (t : Tally) (at : At b n d t) (room 
             took_is = j.took_is;
             path_is = j.judged.listed ∙ ap trail_of (done_path b' (known_formed b' delays k) (known_fine b' delays k) j.judged.verdict);
             at = record {
-              board = j.judged.board done;
               holding = j.judged.holding done;
-              tally = j.tally ∙ ap (λ (a : Answer). tally_ordered a t) done ∙ ap one_taken at.tally;
+              board = j.judged.board done;
+              tally = j.tally ∙ ap (λ (a : Answer Unit). tally_ordered a t) done ∙ ap one_taken at.tally;
             };
           }
 
       pub order_made : Comes (OrderSaid d bytes t) (λ r. Made r took b' (one_taken n))
       order_made = record {
-        result = record { answer = Done; took = took; path = trail_of []; desk = known_desk b' delays k; tally = one_taken t };
+        result = record { answer = Ok tt; took = took; path = trail_of []; desk = known_desk b' delays k; tally = one_taken t };
         said = order_said _ (record { judged = known_judged b' delays k d; took_is = refl; tally = refl });
         only = λ r said. made r (order_judged r said);
       }
@@ -272,9 +277,9 @@ module _ (b : Board) (n : Tally) (d : Desk) (t : Tally) (at : At b n d t) (room 
             path_is = slow_path b' ticks path k d j.judged;
             desk_stays = stays;
             at = record {
-              board = ap (λ (x : Desk). x.board) stays ∙ at.board;
-              holding = subst Holding (sym stays) at.holding;
-              tally = j.tally ∙ ap (λ (a : Answer). tally_ordered a t) answer ∙ counted_slow ticks t ∙ ap one_refused at.tally;
+              holding = record { held = at.holding.held; is = ap (λ (x : Desk). x.held) stays ∙ at.holding.is; kept = at.holding.kept };
+              board = at.board;
+              tally = j.tally ∙ ap (λ (a : Answer Unit). tally_ordered a t) answer ∙ counted_slow ticks t ∙ ap one_refused at.tally;
             };
           }
 

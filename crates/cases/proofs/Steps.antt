@@ -11,8 +11,10 @@ use borrow.Author.Tests.{lt-ltb, leb-true, ltb-true}
 use Rattle.base.specs.Pick.{pick}
 use Rattle.curve.specs.declared.Ticks.{Ticks}
 use Rattle.curve.specs.Rows.{ticks_at}
-use Rattle.refusal.specs.declared.Answer.{Answer}
-use Rattle.refusal.specs.declared.Answer.TheVariants.{Done}
+use Rattle.refusal.specs.Refusal.{Answer}
+use Rattle.std.specs.Prelude.{Some, Ok, IsSomeAnd, IsOkAnd}
+use Rattle.curve.specs.declared.Microwatts.{Microwatts}
+use Rattle.desk.specs.declared.Held.{Held}
 use Rattle.curve.specs.Answers.{power_at_of}
 use Rattle.curve.specs.Tests.{every}
 use Rattle.curve.proofs.GoodLaws.{every_at}
@@ -30,12 +32,11 @@ use Rattle.desk.specs.declared.Tally.{Tally}
 use Rattle.desk.specs.declared.Desk.{Desk}
 use Rattle.desk.specs.declared.Ordered.{Ordered}
 use Rattle.desk.specs.Held.{Standing, holding}
-use Rattle.questions.specs.declared.PowerAsked.{PowerAsked}
 use Rattle.questions.specs.Tried.{part_tried, Said}
-use Rattle.questions.specs.Sets.{cone_refused, ConeGiven, UpstreamSaid, DownstreamSaid, family_refused, FamilyGiven, FamilySaid}
-use Rattle.questions.specs.Numbers.{power_refused, power_told, PowerSaid}
+use Rattle.questions.specs.Sets.{ConeGiven, UpstreamSaid, DownstreamSaid, FamilyGiven, FamilySaid}
+use Rattle.questions.specs.Numbers.{PowerSaid}
 use Rattle.questions.proofs.QuestionLaws.{upstream_once, downstream_once, families_once, power_once}
-use Rattle.cases.specs.Promised.{padded, Shows, Another, Answers, cone_is, family_is, OrderMade, OrderRefused, Counts}
+use Rattle.cases.specs.Promised.{padded, Shows, Another, Answers, marks, cone_is, family_is, OrderMade, OrderRefused, Counts}
 use Rattle.cases.proofs.Best.{ends_of, times_by, fits, fits_budget}
 use Rattle.cases.proofs.Judged.{Known, known_formed, At, at_budget, Made, Turned}
 
@@ -73,21 +74,32 @@ module _ (b : Board) (delays : List ℕ) (k : Known b delays) (others : List ℕ
     };
   }
 
+-- a part that is on the board held may be asked for
+tried_on : (d : Desk) (h : Held) (part : ℕ) → d.held ≡ Some h → part < h.board.parts → part_tried d part ≡ Ok h
+unfolding part_tried pick
+tried_on d h part is here = rw (is, lt-ltb part h.board.parts here)
+
 -- ---- what is held
 module _ {b : Board} {n : Tally} {d : Desk} {t : Tally} (at : At b n d t) where
+  abbrev held : Held
+  held = at.holding.held
+
   -- what holds of the board and the budget that was worked out holds of what is held
   module _ {delays : List ℕ} (k : Known b delays) where
-    held_step : (P : Board → Budget → Type 0) → P b (worked b delays) → P d.board d.budget
+    held_step : (P : Board → Budget → Type 0) → P b (worked b delays) → P held.board held.budget
     held_step P is =
-        subst (λ (x : Board). P x d.budget) (sym at.board)
+        subst (λ (x : Board). P x held.budget) (sym at.board)
         (subst (λ (r : Budget). P b r) (sym (at_budget b delays k at)) is)
 
-    pub holds_step : {ds ends : List ℕ} {total : ℕ} → Shows (worked b delays) ds ends total → Shows d.budget ds ends total
-    holds_step {ds} {ends} {total} = held_step (λ x r. Shows r ds ends total)
+    some_step : (P : Board → Budget → Type 0) → P b (worked b delays) → IsSomeAnd d.held (λ h. P h.board h.budget)
+    some_step P is = rw at.holding.is (held_step P is)
+
+    pub holds_step : {ds ends : List ℕ} {total : ℕ} → Shows (worked b delays) ds ends total → IsSomeAnd d.held (λ h. Shows h.budget ds ends total)
+    holds_step {ds} {ends} {total} = some_step (λ x r. Shows r ds ends total)
 
     pub also_step :
-        {ds ends : List ℕ} {total : ℕ} → Another b (worked b delays) ds ends total → Another d.board d.budget ds ends total
-    also_step {ds} {ends} {total} = held_step (λ x r. Another x r ds ends total)
+        {ds ends : List ℕ} {total : ℕ} → Another b (worked b delays) ds ends total → IsSomeAnd d.held (λ h. Another h.board h.budget ds ends total)
+    also_step {ds} {ends} {total} = some_step (λ x r. Another x r ds ends total)
 
   pub counts_are : Counts t n.taken n.refused
   counts_are = record { taken_are = ap (λ (x : Tally). x.taken) at.tally; refused_are = ap (λ (x : Tally). x.refused) at.tally }
@@ -97,42 +109,40 @@ module _ {b : Board} {n : Tally} {d : Desk} {t : Tally} (at : At b n d t) where
   stands = holding at.holding
 
   module _ {part : ℕ} (here : part < b.parts) where
-    there : part < d.board.parts
+    there : part < held.board.parts
     there = rw at.board here
 
-    asked : part_tried d part ≡ Done
-    unfolding part_tried pick
-    asked = rw (at.holding.held, lt-ltb part d.board.parts there)
+    asked : part_tried d part ≡ Ok held
+    asked = tried_on d held part at.holding.is there
 
-    said : {R : Type 0} (refused : Answer → R) (Is : R → Type 0) (r : R) → Is r → Said (part_tried d part) d refused Is r
-    said refused Is r is = subst (λ (a : Answer). Said a d refused Is r) (sym asked) (λ st. is)
+    said : {R : Type 0} (Is : Held → Answer R → Type 0) (r : Answer R) → Is held r → Said (part_tried d part) d Is r
+    said {R} Is r is = subst (λ (a : Answer Held). Said a d Is r) (sym asked) (λ st. is)
 
     pub power_step :
-        (delay : ℕ) {told : PowerAsked} → power_told (power_at_of (curve_at b part) delay) ≡ told → Answers (PowerSaid d part delay) told
+        (delay : ℕ) {told : Answer Microwatts} → power_at_of (curve_at b part) delay ≡ told → Answers (PowerSaid d part delay) told
     unfolding PowerSaid
     power_step delay {told} is =
-        let given : told ≡ power_told (power_at_of (curve_at d.board part) delay) =
-        sym (ap (λ (x : Board). power_told (power_at_of (curve_at x part) delay)) at.board ∙ is) in
-        let so = said power_refused (λ r. r ≡ power_told (power_at_of (curve_at d.board part) delay)) told given in
+        let given : told ≡ power_at_of (curve_at held.board part) delay = sym (ap (λ (x : Board). power_at_of (curve_at x part) delay) at.board ∙ is) in
+        let so = said (λ h r. r ≡ power_at_of (curve_at h.board part) delay) told given in
         record { result = told; said = so; only = λ r s. power_once d stands part delay r told s so }
 
-    cone_given : (C : ℕ → Type 0) {found set count : ℕ} → C found → found ≡ set → ones set ≡ count → ConeGiven C (cone_is set count)
-    cone_given C is found many = record { done = refl; set = subst C found is; count = sym many }
+    cone_given : (C : ℕ → Type 0) {found set count : ℕ} → C found → found ≡ set → ones set ≡ count → ConeGiven C (marks set count)
+    cone_given C is found many = record { set = subst C found is; count = sym many }
 
     pub upstream_step : {set count : ℕ} → upstream_of b part ≡ set → ones set ≡ count → Answers (UpstreamSaid d part) (cone_is set count)
     unfolding UpstreamSaid
     upstream_step {set} {count} is many =
         let found = ap (λ (x : Board). upstream_of x part) at.board ∙ is in
-        let given = cone_given (Upstream d.board part) (upstream_is d.board at.holding.kept.formed part) found many in
-        let so = said cone_refused (ConeGiven (Upstream d.board part)) (cone_is set count) given in
+        let given = cone_given (Upstream held.board part) (upstream_is held.board at.holding.kept.formed part) found many in
+        let so = said (λ h r. IsOkAnd r (ConeGiven (Upstream h.board part))) (cone_is set count) given in
         record { result = cone_is set count; said = so; only = λ r s. upstream_once d stands part r (cone_is set count) s so }
 
     pub downstream_step : {set count : ℕ} → downstream_of b part ≡ set → ones set ≡ count → Answers (DownstreamSaid d part) (cone_is set count)
     unfolding DownstreamSaid
     downstream_step {set} {count} is many =
         let found = ap (λ (x : Board). downstream_of x part) at.board ∙ is in
-        let given = cone_given (Downstream d.board part) (downstream_is d.board at.holding.kept.formed part) found many in
-        let so = said cone_refused (ConeGiven (Downstream d.board part)) (cone_is set count) given in
+        let given = cone_given (Downstream held.board part) (downstream_is held.board at.holding.kept.formed part) found many in
+        let so = said (λ h r. IsOkAnd r (ConeGiven (Downstream h.board part))) (cone_is set count) given in
         record { result = cone_is set count; said = so; only = λ r s. downstream_once d stands part r (cone_is set count) s so }
 
     pub kin_step :
@@ -142,8 +152,9 @@ module _ {b : Board} {n : Tally} {d : Desk} {t : Tally} (at : At b n d t) where
     unfolding FamilySaid
     kin_step k {parents} {children} is =
         let sets = held_step k (λ x r. KinOf (Critical x r) part (record { parents = parents; children = children })) is in
-        let given : FamilyGiven d part (family_is parents children) = record { done = refl; sets = sets; parent_count = refl; child_count = refl } in
-        let so = said family_refused (FamilyGiven d part) (family_is parents children) given in
+        let given : FamilyGiven held part (record { parents = marks parents (ones parents); children = marks children (ones children) }) =
+        record { sets = sets; parent_count = refl; child_count = refl } in
+        let so = said (λ h r. IsOkAnd r (FamilyGiven h part)) (family_is parents children) given in
         record { result = family_is parents children; said = so; only = λ r s. families_once d stands part r (family_is parents children) s so }
 
 -- ---- orders

@@ -32,8 +32,7 @@ use Rattle.fields.specs.Writing.{in_row}
 use Rattle.fields.specs.CurveFile.{runs_bytes, curve_bytes}
 use Rattle.design.specs.Design.{parts_bytes, links_bytes, linked_bytes, body_bytes, head_bytes, file_of}
 use Rattle.design.proofs.DesignLaws.{design_well_formed}
-use Rattle.orders.specs.declared.Change.TheVariants.{Deadline, AddLink, RemoveLink}
-use Rattle.orders.specs.Order.{plainly}
+use Rattle.orders.specs.declared.Order.TheVariants.{Deadline, AddLink, RemoveLink}
 use Rattle.desk.specs.declared.Tally.{Tally}
 use Rattle.desk.specs.declared.Desk.{Desk}
 use Rattle.desk.specs.Order.{one_taken, one_refused, OrderSaid}
@@ -74,23 +73,23 @@ slow_long = record { formed = long_formed; free = long_free; shown = slow_1 }
 module _ {n : Tally} {d : Desk} {t : Tally} (room : n.taken + n.refused < 65535) where
   adds_link : At K n d t → Comes (OrderSaid d (2 ∷ 3 ∷ 1 ∷ []) t) (λ r. Made r 3 (linked_K 10) (one_taken n))
   adds_link at =
-      order_made K n d t at room (2 ∷ 3 ∷ 1 ∷ []) (plainly (AddLink 3 1)) 3 changes.add_reads changes.add_fits (linked_K 10) changes.add _
+      order_made K n d t at room (2 ∷ 3 ∷ 1 ∷ []) (AddLink 3 1) 3 changes.add_reads changes.add_fits (linked_K 10) changes.add _
       facts.of_linked
 
   too_short :
       At (linked_K 10) n d t → Comes (OrderSaid d (1 ∷ 9 ∷ []) t) (λ r. Turned r 2 10 (0 ∷ 3 ∷ 1 ∷ 2 ∷ []) d (linked_K 10) (one_refused n))
   too_short at =
-      order_refused_lem (linked_K 10) n d t at room (1 ∷ 9 ∷ []) (plainly (Deadline (record { 0 = 9 }))) 2 changes.shorten_reads refl (linked_K 9)
+      order_refused_lem (linked_K 10) n d t at room (1 ∷ 9 ∷ []) (Deadline (record { 0 = 9 })) 2 changes.shorten_reads refl (linked_K 9)
       changes.shorten_linked 10 _ slow_linked
 
   removes_link : At (linked_K 10) n d t → Comes (OrderSaid d (3 ∷ 3 ∷ 1 ∷ []) t) (λ r. Made r 3 K (one_taken n))
   removes_link at =
-      order_made (linked_K 10) n d t at room (3 ∷ 3 ∷ 1 ∷ []) (plainly (RemoveLink 3 1)) 3 changes.remove_reads changes.remove_fits K
+      order_made (linked_K 10) n d t at room (3 ∷ 3 ∷ 1 ∷ []) (RemoveLink 3 1) 3 changes.remove_reads changes.remove_fits K
       changes.remove _ facts.of_K
 
   shortens : At K n d t → Comes (OrderSaid d (1 ∷ 9 ∷ []) t) (λ r. Made r 2 shorter_K (one_taken n))
   shortens at =
-      order_made K n d t at room (1 ∷ 9 ∷ []) (plainly (Deadline (record { 0 = 9 }))) 2 changes.shorten_reads refl shorter_K changes.shorten _
+      order_made K n d t at room (1 ∷ 9 ∷ []) (Deadline (record { 0 = 9 })) 2 changes.shorten_reads refl shorter_K changes.shorten _
       facts.of_shorter
 
 -- ---- case (12)

@@ -1,21 +1,20 @@
 -- What the contracts promise of a row. The idea: whatever desk and tally a load is lent, and whatever results the contracts of load, order and
 -- questions allow from there on, the answers are those of the row.
 -- Assumes nothing.
-use Rattle.std.specs.Prelude.{◌≡◌, List, [], ◌∷◌, ℕ, ◌≤◌, ◌<◌, length}
+use Rattle.std.specs.Prelude.{◌≡◌, List, [], ◌∷◌, ℕ, ◌≤◌, ◌<◌, length, Ok, IsSomeAnd}
 use Rattle.std.specs.Int.Count.{ones}
 use Rattle.theory.specs.Sum.{cells}
-use Rattle.refusal.specs.declared.Answer.TheVariants as answer
-use Rattle.refusal.specs.Refusal.{by, refusal}
-use Rattle.groups.specs.declared.Read.TheVariants as read
+use Rattle.refusal.specs.Refusal.{Answer, refusal}
+use Rattle.groups.specs.Parse.{got}
 use Rattle.groups.specs.Number.{number_at}
 use Rattle.board.specs.declared.Rule.TheVariants.{A}
 use Rattle.board.specs.declared.Board.{Board}
 use Rattle.slow.specs.Walk.{trail_of}
 use Rattle.curve.specs.declared.Ticks.{Ticks}
+use Rattle.curve.specs.declared.Microwatts.{Microwatts}
 use Rattle.curve.specs.Rows.{ticks_at, ticks_row}
 use Rattle.budget.specs.declared.Budget.{Budget}
 use Rattle.budget.specs.Budget.{Allowed}
-use Rattle.fields.specs.Parse.{got}
 use Rattle.design.specs.Design.{design_of, file_of}
 use Rattle.desk.specs.declared.Tally.{Tally}
 use Rattle.desk.specs.declared.Desk.{Desk}
@@ -24,9 +23,7 @@ use Rattle.desk.specs.declared.Ordered.{Ordered}
 use Rattle.desk.specs.Load.{LoadSaid}
 use Rattle.desk.specs.Order.{OrderSaid}
 use Rattle.questions.specs.declared.Marked.{Marked}
-use Rattle.questions.specs.declared.ConeAsked.{ConeAsked}
-use Rattle.questions.specs.declared.FamilyAsked.{FamilyAsked}
-use Rattle.questions.specs.declared.PowerAsked.{PowerAsked}
+use Rattle.questions.specs.declared.FamilyHeld.{FamilyHeld}
 use Rattle.questions.specs.Sets.{UpstreamSaid, DownstreamSaid, FamilySaid}
 use Rattle.questions.specs.Numbers.{PowerSaid}
 use Rattle.cases.specs.Rows.{Step, Case}
@@ -71,21 +68,14 @@ Answers Said r = Comes Said (λ r'. r' ≡ r)
 abbrev pub marks : ℕ → ℕ → Marked
 marks set count = record { set = set; count = count }
 
-abbrev pub power_is : ℕ → PowerAsked
-power_is watts = record { answer = answer.Done; power = record { 0 = watts } }
+abbrev pub power_is : ℕ → Answer Microwatts
+power_is watts = Ok (record { 0 = watts })
 
-abbrev pub power_not : ℕ → ℕ → PowerAsked
-power_not number place = record { answer = refusal number place; power = record { 0 = 0 } }
+abbrev pub cone_is : ℕ → ℕ → Answer Marked
+cone_is set count = Ok (marks set count)
 
-abbrev pub cone_is : ℕ → ℕ → ConeAsked
-cone_is set count = record { answer = answer.Done; cone = marks set count }
-
-abbrev pub family_is : ℕ → ℕ → FamilyAsked
-family_is parents children = record {
-  answer = answer.Done;
-  parents = marks parents (ones parents);
-  children = marks children (ones children);
-}
+abbrev pub family_is : ℕ → ℕ → Answer FamilyHeld
+family_is parents children = Ok (record { parents = marks parents (ones parents); children = marks children (ones children) })
 
 -- ---- loads and orders
 pub record LoadRefused (d : Desk) (t : Tally) (r : Loaded) (number place : ℕ) (path : List ℕ) : Type 0 where
@@ -95,7 +85,7 @@ pub record LoadRefused (d : Desk) (t : Tally) (r : Loaded) (number place : ℕ) 
   pub tally_stays : r.tally ≡ t
 
 pub record OrderMade (bytes : List ℕ) (r : Ordered) : Type 0 where
-  pub done : r.answer ≡ answer.Done
+  pub done : r.answer ≡ Ok tt
   pub took_all : r.took ≡ length bytes
   pub path_is : r.path ≡ trail_of []
 
@@ -111,10 +101,10 @@ pub record Counts (t : Tally) (taken refused : ℕ) : Type 0 where
 
 -- a step at a desk with its tally, and what is promised next
 abbrev pub StepPromised : Step → (Desk → Tally → Type 0) → Desk → Tally → Type 0
-StepPromised (row.holds delays ends total) next d t = Shows d.budget delays ends total × next d t
-StepPromised (row.also delays ends total) next d t = Another d.board d.budget delays ends total × next d t
+StepPromised (row.holds delays ends total) next d t = IsSomeAnd d.held (λ held. Shows held.budget delays ends total) × next d t
+StepPromised (row.also delays ends total) next d t = IsSomeAnd d.held (λ held. Another held.board held.budget delays ends total) × next d t
 StepPromised (row.costs part delay watts) next d t = Answers (PowerSaid d part delay) (power_is watts) × next d t
-StepPromised (row.costs_not part delay number place) next d t = Answers (PowerSaid d part delay) (power_not number place) × next d t
+StepPromised (row.costs_not part delay number place) next d t = Answers (PowerSaid d part delay) (refusal number place) × next d t
 StepPromised (row.upstream part set count) next d t = Answers (UpstreamSaid d part) (cone_is set count) × next d t
 StepPromised (row.downstream part set count) next d t = Answers (DownstreamSaid d part) (cone_is set count) × next d t
 StepPromised (row.kin part parents children) next d t = Answers (FamilySaid d part) (family_is parents children) × next d t
@@ -131,11 +121,11 @@ StepsPromised (s ∷ steps) d t = StepPromised s (StepsPromised steps) d t
 unfoldable pub Promised : Case → Type 0
 Promised (row.file b bytes) = (file_of b ≡ bytes) × (design_of A bytes ≡ got b (length bytes))
 Promised (row.board b steps) =
-    (d : Desk) (t : Tally) → Comes (LoadSaid d 0 (file_of b) t) (λ r. (r.answer ≡ answer.Done) × StepsPromised steps r.desk r.tally)
+    (d : Desk) (t : Tally) → Comes (LoadSaid d 0 (file_of b) t) (λ r. (r.answer ≡ Ok tt) × StepsPromised steps r.desk r.tally)
 Promised (row.board_not b number place path) =
     (d : Desk) (t : Tally) → Comes (LoadSaid d 0 (file_of b) t) (λ r. LoadRefused d t r number place path)
-Promised (row.number bytes value) = number_at bytes 0 ≡ read.Number value (length bytes)
-Promised (row.number_not bytes number place) = number_at bytes 0 ≡ read.Refused (by number) place
+Promised (row.number bytes value) = number_at bytes 0 ≡ got value (length bytes)
+Promised (row.number_not bytes number place) = number_at bytes 0 ≡ refusal number place
 Promised (row.both one other) = Promised one × Promised other
 
 -- every row of a table

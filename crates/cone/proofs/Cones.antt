@@ -1,15 +1,16 @@
 -- What a sweep reaches over the rows of a board is downstream, over the rows turned back upstream.
 -- Assumes nothing.
-use Rattle.std.proofs.Common.{◌≡◌, ℕ, ◌<◌, Bool, true, false, sym, ⊎_elim, arith}
+use Rattle.std.proofs.Common.{◌≡◌, ℕ, ◌<◌, List, length, get_or, take, min, sym, ⊎_elim, arith}
 use Rattle.base.proofs.Cases.{eq_or_ne}
 use Rattle.marks.specs.Marks.{bit, one_of}
 use Rattle.marks.proofs.Bits.{mark_below, bit_one_same, bit_one_other, one_fits, exactly_once}
+use Rattle.board.specs.declared.Link.{Link}
 use Rattle.board.specs.declared.Board.{Board}
-use Rattle.board.specs.Board.{Linked, WellFormed}
+use Rattle.board.specs.Board.{no_link, link_at, turned_link, Linked, WellFormed}
 use Rattle.board.specs.Leads.{Leads, one, more, Reach, here, by}
 use Rattle.cone.specs.Cone.{Downstream, Upstream}
-use Rattle.cone.specs.Sweeps.{rows_of, cone_of, downstream_of, upstream_of}
-use Rattle.cone.proofs.Marked.{rows_fit, row_linked, column_linked, linked_row, linked_column}
+use Rattle.cone.specs.Sweeps.{rows_of, forth_rows, back_rows, cone_of, downstream_of, upstream_of}
+use Rattle.cone.proofs.Marked.{rows_forth, rows_back, forth_fit, back_fit, row_linked, column_linked, linked_row, linked_column}
 use Rattle.cone.proofs.Sweeping.{Reached, start, step, reached_fits, reached_marked, reached_all}
 
 -- ---- paths
@@ -52,54 +53,54 @@ one_is_it p q h = ⊎_elim (λ e. e) (λ ne. absurd (omega (arith, bit_one_other
 
 module _ (b : Board) (ok : WellFormed b) where
   -- ---- along the links
-  pub walk : {from a q : ℕ} → Reached (rows_of b false) from a → Leads b a q → Reached (rows_of b false) from q
+  pub walk : {from a q : ℕ} → Reached (forth_rows b) from a → Leads b a q → Reached (forth_rows b) from q
   walk r (one l) = step r (linked_row b ok _ _ l)
   walk r (more l t) = walk (step r (linked_row b ok _ _ l)) t
 
-  reached_down : {p q : ℕ} → Reached (rows_of b false) (one_of p) q → Reach b p q
+  reached_down : {p q : ℕ} → Reached (forth_rows b) (one_of p) q → Reach b p q
   reached_down {p} {q} (start h) = here (one_is_it p q h)
   reached_down (step r h) = by (reach_path b (reached_down r) (row_linked b ok _ _ h))
 
   -- ---- back
-  walk_back : {from p q : ℕ} → Reached (rows_of b true) from p → Leads b q p → Reached (rows_of b true) from q
+  walk_back : {from p q : ℕ} → Reached (back_rows b) from p → Leads b q p → Reached (back_rows b) from q
   walk_back r (one l) = step r (linked_column b ok _ _ l)
   walk_back r (more l t) = step (walk_back r t) (linked_column b ok _ _ l)
 
-  reached_up : {p q : ℕ} → Reached (rows_of b true) (one_of p) q → Reach b q p
+  reached_up : {p q : ℕ} → Reached (back_rows b) (one_of p) q → Reach b q p
   reached_up {p} {q} (start h) = here (sym (one_is_it p q h))
   reached_up (step r h) = by (path_reach b (column_linked b ok _ _ h) (reached_up r))
 
   module _ (p : ℕ) where
-    itself : p < 64 → (back : Bool) → Reached (rows_of b back) (one_of p) p
-    itself h back = start (bit_one_same p h)
+    itself : p < 64 → (rows : List ℕ) → Reached rows (one_of p) p
+    itself h rows = start (bit_one_same p h)
 
-    down_reached : (q : ℕ) → q < 64 → Reach b p q → Reached (rows_of b false) (one_of p) q
-    down_reached q h (here e) = rw (← e) (itself (omega arith) false)
-    down_reached q h (by t) = walk (itself (omega (arith, path_from b ok t, ok.parts_to)) false) t
+    down_reached : (q : ℕ) → q < 64 → Reach b p q → Reached (forth_rows b) (one_of p) q
+    down_reached q h (here e) = rw (← e) (itself (omega arith) (forth_rows b))
+    down_reached q h (by t) = walk (itself (omega (arith, path_from b ok t, ok.parts_to)) (forth_rows b)) t
 
-    up_reached : (q : ℕ) → q < 64 → Reach b q p → Reached (rows_of b true) (one_of p) q
-    up_reached q h (here e) = rw e (itself (omega arith) true)
-    up_reached q h (by t) = walk_back (itself (omega (arith, path_to b ok t, ok.parts_to)) true) t
+    up_reached : (q : ℕ) → q < 64 → Reach b q p → Reached (back_rows b) (one_of p) q
+    up_reached q h (here e) = rw e (itself (omega arith) (back_rows b))
+    up_reached q h (by t) = walk_back (itself (omega (arith, path_to b ok t, ok.parts_to)) (back_rows b)) t
 
     -- ---- the computed sets are those that are meant
     pub downstream_is : Downstream b p (downstream_of b p)
     unfolding downstream_of cone_of
     downstream_is =
-        let fits = reached_fits (rows_of b false) (one_of p) (rows_fit b false) (one_fits p) in
+        let fits = reached_fits (forth_rows b) (one_of p) (forth_fit b) (one_fits p) in
         record {
           fits = fits;
-          marked = λ q h. (mark_below _ q fits h, reached_down (reached_marked (rows_of b false) (one_of p) (rows_fit b false) (one_fits p) q h));
-          all = λ q r. reached_all (rows_of b false) (one_of p) (rows_fit b false) (one_fits p) q (down_reached q r.0 r.1);
+          marked = λ q h. (mark_below _ q fits h, reached_down (reached_marked (forth_rows b) (one_of p) (forth_fit b) (one_fits p) q h));
+          all = λ q r. reached_all (forth_rows b) (one_of p) (forth_fit b) (one_fits p) q (down_reached q r.0 r.1);
         }
 
     pub upstream_is : Upstream b p (upstream_of b p)
     unfolding upstream_of cone_of
     upstream_is =
-        let fits = reached_fits (rows_of b true) (one_of p) (rows_fit b true) (one_fits p) in
+        let fits = reached_fits (back_rows b) (one_of p) (back_fit b) (one_fits p) in
         record {
           fits = fits;
-          marked = λ q h. (mark_below _ q fits h, reached_up (reached_marked (rows_of b true) (one_of p) (rows_fit b true) (one_fits p) q h));
-          all = λ q r. reached_all (rows_of b true) (one_of p) (rows_fit b true) (one_fits p) q (up_reached q r.0 r.1);
+          marked = λ q h. (mark_below _ q fits h, reached_up (reached_marked (back_rows b) (one_of p) (back_fit b) (one_fits p) q h));
+          all = λ q r. reached_all (back_rows b) (one_of p) (back_fit b) (one_fits p) q (up_reached q r.0 r.1);
         }
 
 -- ---- there is one such set, and the two kinds answer each other
@@ -118,10 +119,12 @@ module _ (b : Board) (p : ℕ) where
   up_down q few d u down up h = down.all q (few, (up.marked p h).1)
 
 -- ---- `downstream`, `upstream`
-pub downstream_said : (b : Board) (p r : ℕ) → r ≡ cone_of b false p → WellFormed b → Downstream b p r
-unfolding downstream_of
-downstream_said b p r e ok = rw e (downstream_is b ok p)
+module _ (b : Board) (p n r : ℕ) (cut : n ≡ min b.links 256) (long : length b.link ≡ 256) where
+  pub downstream_said : r ≡ cone_of (rows_of (take n b.link)) p → WellFormed b → Downstream b p r
+  unfolding downstream_of
+  downstream_said e ok = rw (e, rows_forth b n cut long) (downstream_is b ok p)
 
-pub upstream_said : (b : Board) (p r : ℕ) → r ≡ cone_of b true p → WellFormed b → Upstream b p r
-unfolding upstream_of
-upstream_said b p r e ok = rw e (upstream_is b ok p)
+  pub upstream_said : (back : List Link) → length back ≡ 256 → ((l : ℕ) → l < 256 → get_or back l no_link ≡ turned_link (link_at b l))
+      → r ≡ cone_of (rows_of (take n back)) p → WellFormed b → Upstream b p r
+  unfolding upstream_of
+  upstream_said back room each e ok = rw (e, rows_back b n cut long back room each) (upstream_is b ok p)

@@ -1,13 +1,13 @@
 -- A sweep marks exactly what can be reached. What it holds at every step (`Sound`): what is visited or to be visited can be reached, what was
 -- marked at first is one of these, and so is every part that a visited part's row marks. Each step visits a part more, so 64 steps visit all.
 -- Assumes nothing.
-use Rattle.std.proofs.Common.{◌≡◌, ℕ, zero, suc, ◌+◌, ◌-◌, ◌^◌, ◌<◌, ◌≤◌, max, ◌⊎◌, List, get_or, sym, ap, ◌∙◌, inl, inr, ⊎_elim, arith, lit<, le-ltb, lt-ltb}
+use Rattle.std.proofs.Common.{refl, ◌≡◌, ℕ, zero, suc, ◌+◌, ◌-◌, ◌^◌, ◌<◌, ◌≤◌, max, ◌⊎◌, List, get_or, sym, ap, ◌∙◌, inl, inr, ⊎_elim, arith, lit<}
 use lib.Count.{ones}
-use Rattle.base.specs.Pick.{pick}
-use Rattle.base.proofs.Cases.{lt_or_le, eq_or_ne}
+use Rattle.base.proofs.Cases.{eq_or_ne}
 use Rattle.marks.specs.Marks.{bit, insert_of, union_of, without_of, lowest_of}
 use Rattle.marks.proofs.Bits.{bit_lt, bit_none, bit_or_not, bit_union, bit_without, insert_same, insert_other, insert_fits, union_fits, without_fits}
-use Rattle.marks.proofs.Counts.{ones_to, ones_insert, lowest_mark, lowest_past}
+use Rattle.marks.proofs.Counts.{ones_to, ones_insert, lowest_is, lowest_below, lowest_past}
+use Rattle.std.specs.Prelude.{Option, Some, None}
 use Rattle.cone.specs.declared.Sweep.{Sweep}
 use Rattle.cone.specs.Sweeps.{visited_of, step_of, sweep_up_to, reached_of}
 
@@ -90,21 +90,22 @@ module _ (rows : List ℕ) (from : ℕ) (rows_fit : (p : ℕ) → get_or rows p 
         }
 
   -- ---- all steps
-  step_goes : (s : Sweep) → lowest_of s.todo < 64 → step_of rows s ≡ visited_of s (lowest_of s.todo) (get_or rows (lowest_of s.todo) 0)
-  unfolding step_of pick
-  step_goes s h = rw (lt-ltb (lowest_of s.todo) 64 h)
+  step_goes : (s : Sweep) (p : ℕ) → lowest_of s.todo ≡ Some p → step_of rows s ≡ visited_of s p (get_or rows p 0)
+  unfolding step_of
+  step_goes s p is = rw is
 
-  step_stays : (s : Sweep) → 64 ≤ lowest_of s.todo → step_of rows s ≡ s
-  unfolding step_of pick
-  step_stays s h = rw (le-ltb (lowest_of s.todo) 64 h)
+  step_stays : (s : Sweep) → lowest_of s.todo ≡ None → step_of rows s ≡ s
+  unfolding step_of
+  step_stays s is = rw is
+
+  sound_next : (s : Sweep) → Sound s → (o : Option ℕ) → lowest_of s.todo ≡ o → Sound (step_of rows s)
+  unfolding visited_of done todo
+  sound_next s ok None is = rw (step_stays s is) ok
+  sound_next s ok (Some p) is =
+      rw (step_goes s p is) (sound_visited s ok p (lowest_is s.todo p is ok.todo_fits) (lowest_below s.todo p is ok.todo_fits))
 
   sound_step : (s : Sweep) → Sound s → Sound (step_of rows s)
-  unfolding visited_of done todo
-  sound_step s ok =
-      ⊎_elim
-      (λ h. rw (step_goes s h) (sound_visited s ok (lowest_of s.todo) (lowest_mark s.todo ok.todo_fits h) h))
-      (λ h. rw (step_stays s h) ok)
-      (lt_or_le (lowest_of s.todo) 64)
+  sound_step s ok = sound_next s ok (lowest_of s.todo) refl
 
   sound : (k : ℕ) → Sound (sweep_up_to rows from k)
   unfolding sweep_up_to
@@ -112,28 +113,35 @@ module _ (rows : List ℕ) (from : ℕ) (rows_fit : (p : ℕ) → get_or rows p 
   sound (suc k) = sound_step (sweep_up_to rows from k) (sound k)
 
   -- each step visits a part more, while there is one to visit
-  visits_more : (s : Sweep) → Sound s → lowest_of s.todo < 64 → ones s.done < ones (insert_of s.done (lowest_of s.todo))
-  visits_more s ok h = ones_insert s.done (lowest_of s.todo) ok.done_fits h (ok.apart _ (lowest_mark s.todo ok.todo_fits h))
+  visits_more : (s : Sweep) (p : ℕ) → Sound s → lowest_of s.todo ≡ Some p → ones s.done < ones (insert_of s.done p)
+  visits_more s p ok is =
+      ones_insert s.done p ok.done_fits (lowest_below s.todo p is ok.todo_fits) (ok.apart p (lowest_is s.todo p is ok.todo_fits))
 
-  counts_step : (s : Sweep) (k : ℕ) → Sound s → (64 ≤ lowest_of s.todo) ⊎ (k ≤ ones s.done) → (64 ≤ lowest_of (step_of rows s).todo) ⊎ (suc k ≤ ones (step_of rows s).done)
+  counts_next : (s : Sweep) (k : ℕ) → Sound s → k ≤ ones s.done → (o : Option ℕ) → lowest_of s.todo ≡ o
+      → (lowest_of (step_of rows s).todo ≡ None) ⊎ (suc k ≤ ones (step_of rows s).done)
   unfolding visited_of
-  counts_step s k ok (inl h) = inl (rw (step_stays s h) h)
-  counts_step s k ok (inr c) =
-      ⊎_elim (λ h. inr (rw (step_goes s h) (omega (arith, visits_more s ok h)))) (λ h. inl (rw (step_stays s h) h)) (lt_or_le (lowest_of s.todo) 64)
+  counts_next s k ok c None is = inl (rw (step_stays s is) is)
+  counts_next s k ok c (Some p) is = inr (rw (step_goes s p is) (omega (arith, visits_more s p ok is)))
 
-  counts : (k : ℕ) → (64 ≤ lowest_of (sweep_up_to rows from k).todo) ⊎ (k ≤ ones (sweep_up_to rows from k).done)
+  counts_step : (s : Sweep) (k : ℕ) → Sound s → (lowest_of s.todo ≡ None) ⊎ (k ≤ ones s.done)
+      → (lowest_of (step_of rows s).todo ≡ None) ⊎ (suc k ≤ ones (step_of rows s).done)
+  counts_step s k ok (inl h) = inl (rw (step_stays s h) h)
+  counts_step s k ok (inr c) = counts_next s k ok c (lowest_of s.todo) refl
+
+  counts : (k : ℕ) → (lowest_of (sweep_up_to rows from k).todo ≡ None) ⊎ (k ≤ ones (sweep_up_to rows from k).done)
   unfolding sweep_up_to
   counts zero = inr (omega arith)
   counts (suc k) = counts_step (sweep_up_to rows from k) k (sound k) (counts k)
 
   -- so after 64 steps there is none
-  stops : (s : Sweep) → Sound s → (64 ≤ lowest_of s.todo) ⊎ (64 ≤ ones s.done) → s.todo ≡ 0
-  stops s ok (inl h) = lowest_past s.todo ok.todo_fits h
-  stops s ok (inr c) =
-      ⊎_elim
-      (λ h. absurd (omega (arith, visits_more s ok h, ones_to (insert_of s.done (lowest_of s.todo)) (insert_fits s.done (lowest_of s.todo) ok.done_fits))))
-      (λ h. lowest_past s.todo ok.todo_fits h)
-      (lt_or_le (lowest_of s.todo) 64)
+  stops_at : (s : Sweep) → Sound s → 64 ≤ ones s.done → (o : Option ℕ) → lowest_of s.todo ≡ o → s.todo ≡ 0
+  stops_at s ok c None is = lowest_past s.todo is
+  stops_at s ok c (Some p) is =
+      absurd (omega (arith, visits_more s p ok is, ones_to (insert_of s.done p) (insert_fits s.done p ok.done_fits)))
+
+  stops : (s : Sweep) → Sound s → (lowest_of s.todo ≡ None) ⊎ (64 ≤ ones s.done) → s.todo ≡ 0
+  stops s ok (inl h) = lowest_past s.todo h
+  stops s ok (inr c) = stops_at s ok c (lowest_of s.todo) refl
 
   none_left : (q : ℕ) → bit (sweep_up_to rows from 64).todo q ≡ 0
   none_left q = rw (stops (sweep_up_to rows from 64) (sound 64) (counts 64)) (bit_none q)

@@ -1,8 +1,8 @@
 -- A page of 65,536 bytes, filled byte by byte. The subtle point: past the last byte it is begun anew at 0, when all that stood on it has been
 -- written out; so text of any length can be put on it from any place.
 -- Assumes nothing.
-use Rattle.std.specs.Prelude.{◌≡◌, List, [], ◌∷◌, ℕ, ◌+◌, ◌/◌, ◌%◌, ltb, set}
-use Rattle.io.specs.Digits.{last_digits, IsDigitCount}
+use Rattle.std.specs.Prelude.{List, [], ◌∷◌, ℕ, ◌+◌, ◌/◌, ◌%◌, ltb, set}
+use Rattle.io.specs.Digits.{hex_digit_ascii}
 use Rattle.base.specs.Pick.{pick}
 
 -- where the next byte goes on a page that is filled up to `at`
@@ -19,17 +19,7 @@ unfoldable pub text_end : ℕ → List ℕ → ℕ
 text_end at [] = at
 text_end at (byte ∷ rest) = text_end (spot_of at + 1) rest
 
--- a word and then a number in decimal digits, as few as it needs
-pub record NumberPut (page : List ℕ) (at : ℕ) (word : List ℕ) (n end : ℕ) (page' : List ℕ) : Type 0 where
-  pub places : ℕ
-  pub fewest : IsDigitCount 10 1 n places
-  pub filled : end ≡ text_end (text_end at word) (last_digits 10 places n)
-  pub holds : page' ≡ text_on (text_on page at word) (text_end at word) (last_digits 10 places n)
-
 -- bytes as hex digits, two for each: `0` to `9`, then `a` to `f`
-unfoldable pub hex_digit : ℕ → ℕ
-hex_digit d = pick (ltb d 10) (48 + d) (87 + d)
-
 unfoldable pub hex_of : List ℕ → List ℕ
 hex_of [] = []
-hex_of (byte ∷ rest) = hex_digit (byte / 16) ∷ hex_digit (byte % 16) ∷ hex_of rest
+hex_of (byte ∷ rest) = hex_digit_ascii (byte / 16) ∷ hex_digit_ascii (byte % 16) ∷ hex_of rest

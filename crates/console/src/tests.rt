@@ -26,25 +26,25 @@ impl Write for Tight {
 // The first failure is kept, and nothing is written after it.
 #[test]
 fn keeps_a_failed_write(rt: HostRuntime) {
-    let mut page = [0u8; PAGE];
-    let mut out = out_to(Tight { room: 2 });
-    let end = text(&mut out, &mut page, 0, b"abc");
-    write_out(&mut out, &page, end);
+    let mut out = Out::to(Tight { room: 2 });
+    out.text(b"abc");
+    out.flush();
     out.writer.room = 9;
-    write_out(&mut out, &page, end);
+    out.text(b"abc");
+    out.flush();
     assert_eq!(rt; out.writer.room, 9);
-    assert!(rt; outcome(out).is_err());
+    assert!(rt; out.outcome().is_err());
 }
 
 #[test]
 fn writes_what_was_put(rt: HostRuntime) {
-    let mut page = [0u8; PAGE];
-    let mut out = out_to(Vec::<u8>::new(rt.alloc()));
-    let numbered = number(&mut out, &mut page, PAGE, b"n ", 10);
-    let shown = hex(&mut out, &mut page, numbered, b"\x0a\xff!", 2);
-    let end = end_line(&mut out, &mut page, shown);
-    write_out(&mut out, &page, end);
+    let mut out = Out::to(Vec::<u8>::new(rt.alloc()));
+    out.text(&[0u8; PAGE]);
+    out.number(b"n ", 10);
+    out.hex(b"\x0a\xff!", 2);
+    out.end_line();
+    out.flush();
     assert_eq!(rt; out.writer.len(), PAGE + 9);
     assert!(rt; &out.writer.as_slice()[PAGE..] == b"n 100aff\n".as_slice());
-    assert!(rt; outcome(out).is_ok());
+    assert!(rt; out.outcome().is_ok());
 }

@@ -6,10 +6,11 @@ use Prim.Native.Nat.{ℕ}
 use Rattle.base.specs.Pick.{pick}
 use Rattle.theory.specs.Sum.{sum}
 use Rattle.theory.specs.Saving.{tick}
+use Rattle.std.specs.Prelude.{Ok}
+use Rattle.refusal.specs.Refusal.{refused}
 use Rattle.refusal.specs.declared.Why.TheVariants.{OffCurve}
 use Rattle.curve.specs.declared.Run.{Run}
 use Rattle.curve.specs.declared.Curve.{Curve}
-use Rattle.curve.specs.declared.Power.TheVariants.{At, Refused}
 use Rattle.curve.specs.Curve.{no_run, length_at, saving_at, ticks_of, slowest_of, saving_of, power_of}
 use Rattle.curve.specs.Answers.{power_at_of}
 
@@ -23,12 +24,12 @@ part_zero = record { fastest = record { 0 = 2 }; power = record { 0 = 100 }; cou
 
 -- the whole case
 pub record Case1 : Type 0 where
-  pub at_2 : power_at_of part_zero 2 ≡ At (record { 0 = 100 })
-  pub at_3 : power_at_of part_zero 3 ≡ At (record { 0 = 80 })
-  pub at_4 : power_at_of part_zero 4 ≡ At (record { 0 = 60 })
-  pub at_5 : power_at_of part_zero 5 ≡ At (record { 0 = 55 })
-  pub at_1 : power_at_of part_zero 1 ≡ Refused OffCurve 1
-  pub at_6 : power_at_of part_zero 6 ≡ Refused OffCurve 6
+  pub at_2 : power_at_of part_zero 2 ≡ Ok (record { 0 = 100 })
+  pub at_3 : power_at_of part_zero 3 ≡ Ok (record { 0 = 80 })
+  pub at_4 : power_at_of part_zero 4 ≡ Ok (record { 0 = 60 })
+  pub at_5 : power_at_of part_zero 5 ≡ Ok (record { 0 = 55 })
+  pub at_1 : power_at_of part_zero 1 ≡ refused OffCurve 1
+  pub at_6 : power_at_of part_zero 6 ≡ refused OffCurve 6
 
 pub case_1 : Case1
 unfolding power_at_of part_zero slowest_of ticks_of power_of saving_of length_at saving_at tick sum pick

@@ -21,7 +21,7 @@ use Rattle.curve.specs.declared.Microwatts.{Microwatts}
 use Rattle.curve.specs.declared.Run.{Run}
 use Rattle.curve.specs.declared.Curve.{Curve}
 use Rattle.curve.specs.Curve.{power_max, no_run, run_at, length_at, saving_at, ticks_of, slowest_of, saving_of, savings_of, power_of, Good}
-use Rattle.curve.specs.declared.Power.TheVariants.{At}
+use Rattle.std.specs.Prelude.{Ok}
 use Rattle.curve.specs.Answers.{flat_of, off_curve, power_at_of}
 
 -- what a tick of the first r runs saves is what one of these runs does
@@ -86,7 +86,7 @@ module _ (c : Curve) where
       let from : c.fastest.0 ≤ d = omega arith in
       rw (le-ltb d c.fastest.0 from, lt-ltb (c.fastest.0 + ticks_of c) d h)
 
-  pub power_at_on : (d : ℕ) → c.fastest.0 ≤ d → d ≤ slowest_of c → power_at_of c d ≡ At (record { 0 = power_of c d })
+  pub power_at_on : (d : ℕ) → c.fastest.0 ≤ d → d ≤ slowest_of c → power_at_of c d ≡ Ok (record { 0 = power_of c d })
   unfolding power_at_of slowest_of pick
   power_at_on d from to = rw (le-ltb d c.fastest.0 from, le-ltb (c.fastest.0 + ticks_of c) d to)
 
@@ -171,7 +171,7 @@ module _ (fastest : Ticks) (power : Microwatts) where
   unfolding power_of saving_of tick flat_of
   flat_power = omega (arith, sum_zero (fastest.0 - fastest.0))
 
-  pub flat_power_at : power_at_of (flat_of fastest power) fastest.0 ≡ At power
+  pub flat_power_at : power_at_of (flat_of fastest power) fastest.0 ≡ Ok power
   unfolding flat_of
   flat_power_at =
       power_at_on (flat_of fastest power) fastest.0 (omega arith) (omega (arith, flat_slowest)) ∙ rw flat_power

@@ -3,3 +3,4 @@ pub mod GoodLaws
 pub mod Ways
 pub mod Case1
 pub mod RowLaws
+pub mod Orders

@@ -1,7 +1,7 @@
 -- The ways through the functions on curves: plain facts that their proofs cite.
 -- The idea of `power_at`: after k runs, of the j ticks past the fastest those are left that are beyond the k runs, and the others are saved.
 -- Assumes nothing.
-use mathlib.Core.Path.{◌≡◌, refl, sym, ◌∙◌}
+use mathlib.Core.Path.{◌≡◌, refl, sym, ap, ◌∙◌}
 use mathlib.Core.Bool.{Bool, true, false, not}
 use mathlib.Core.Logic.{⊎_elim}
 use Prim.Native.Nat.{ℕ, ◌+◌, ◌*◌, ◌-◌, ◌^◌, ◌≤◌, ◌<◌, min}
@@ -14,8 +14,12 @@ use lib.ListN.{length, length-map}
 use mir.Syntax.{w64}
 use mir.Val.{Fits}
 use borrow.Author.Tests.{not-true, not-false, le-leb, lt-leb, eq-eqb, ne_eqb}
+use Rattle.std.specs.Prelude.{Some, None, Ok, Err}
 use Rattle.base.specs.Pick.{pick}
 use Rattle.base.proofs.Cases.{lt_or_le, finished}
+use Rattle.refusal.specs.Refusal.{refusal_at}
+use Rattle.refusal.specs.declared.Refusal.{Refusal}
+use Rattle.refusal.specs.declared.Why.TheVariants.{OffCurve}
 use Rattle.theory.specs.Sum.{sum}
 use Rattle.theory.specs.Saving.{saves}
 use Rattle.theory.proofs.SumLaws.{sum_next, sum_mono}
@@ -25,11 +29,8 @@ use Rattle.curve.specs.declared.Microwatts.{Microwatts}
 use Rattle.curve.specs.declared.Run.{Run}
 use Rattle.curve.specs.declared.Curve.{Curve}
 use Rattle.curve.specs.declared.Slowing.{Slowing}
-use Rattle.curve.specs.declared.Power.{Power}
-use Rattle.curve.specs.declared.Power.TheVariants.{At}
-use Rattle.curve.specs.declared.Last.TheVariants.{Saving, Unused}
 use Rattle.curve.specs.Curve.{power_max, run_at, length_at, saving_at, ticks_of, slowest_of, saving_of, savings_of, power_of}
-use Rattle.curve.specs.Answers.{next_saving_of, last_saving_of, off_curve, power_at_of, used_of}
+use Rattle.curve.specs.Answers.{next_saving_of, last_saving_of, power_at_of, used_of}
 use Rattle.curve.specs.Tests.{both, every, blankb, rangedb, placeb, goodb}
 use Rattle.curve.proofs.CurveLaws.{ticks_held, savings_held, saving_past, power_at_below, power_at_past, power_at_on}
 use Rattle.curve.proofs.GoodLaws.{every_fails}
@@ -128,11 +129,11 @@ module _ (c : Curve) where
     next_more h = omega (arith, run_length k, sum_next k (length_at c))
 
   -- ---- last_saving
-  pub none_used : (d : ℕ) → d ≤ c.fastest.0 → Unused ≡ last_saving_of c d
+  pub none_used : (d : ℕ) → d ≤ c.fastest.0 → None ≡ last_saving_of c d
   unfolding last_saving_of pick
   none_used d h = rw (le-leb d c.fastest.0 h)
 
-  pub one_used : (d : ℕ) (s : Microwatts) → c.fastest.0 < d → s.0 ≡ next_saving_of c (d - 1) → Saving s ≡ last_saving_of c d
+  pub one_used : (d : ℕ) (s : Microwatts) → c.fastest.0 < d → s.0 ≡ next_saving_of c (d - 1) → Some s ≡ last_saving_of c d
   unfolding last_saving_of pick
   one_used d s h is = rw (lt-leb d c.fastest.0 h, ← is)
 
@@ -142,12 +143,10 @@ slowing_eq : (a b p q : ℕ) → a ≡ b → p ≡ q
 slowing_eq a b p q l r = rw (l, r)
 
 -- a run's ticks are used, as the code does it
-pub used_way : (s : Slowing) (run : Run) (left : ℕ) (p : Microwatts) → left ≡ s.left.0 - run.length.0
-    → p.0 ≡ s.power.0 - (s.left.0 - left) * run.saving.0 → record { left = record { 0 = left }; power = p } ≡ used_of s run
+pub used_way : (s : Slowing) (run : Run) (used left : Ticks) (p : Microwatts) → used.0 ≡ min s.left.0 run.length.0 → left.0 ≡ s.left.0 - run.length.0
+    → p.0 ≡ s.power.0 - used.0 * run.saving.0 → record { left = left; power = p } ≡ used_of s run
 unfolding used_of
-used_way s run left p is got =
-    let ticks : s.left.0 - left ≡ min s.left.0 run.length.0 = omega arith in
-    slowing_eq _ _ _ _ is (got ∙ rw ticks)
+used_way s run used left p ticks is got = slowing_eq _ _ _ _ is (got ∙ rw ticks)
 
 module _ (c : Curve) (j : ℕ) where
   -- a delay of j ticks past the fastest, after k runs
@@ -190,27 +189,27 @@ module _ (c : Curve) (j : ℕ) where
       (rw (saves_more k (omega arith), run_length c k, run_saving c k) (omega arith)))
 
 module _ (c : Curve) (d : ℕ) where
-  pub below_fastest : (r : Power) → r ≡ off_curve d → d < c.fastest.0 → r ≡ power_at_of c d
-  below_fastest r is h = is ∙ sym (power_at_below c d h)
+  pub below_fastest : (e : Refusal) → e ≡ refusal_at OffCurve d → d < c.fastest.0 → Err e ≡ power_at_of c d
+  below_fastest e is h = ap Err is ∙ sym (power_at_below c d h)
 
-  module _ (n k : ℕ) (s : Slowing) (room : length c.runs ≡ 4) (from : c.fastest.0 ≤ d) (held : n ≡ min c.count 4) (l : k ≤ n) (h : n ≤ k)
-      (is : s ≡ slowed_to c (d - c.fastest.0) k) where
+  module _ (j n k : ℕ) (s : Slowing) (room : length c.runs ≡ 4) (from : c.fastest.0 ≤ d) (asked : j ≡ d - c.fastest.0) (held : n ≡ min c.count 4)
+      (l : k ≤ n) (h : n ≤ k) (is : s ≡ slowed_to c j k) where
     all_ticks : sum k (length_at c) ≡ ticks_of c
     all_ticks = let same : k ≡ min c.count 4 = omega arith in rw same (ticks_held c room)
 
     ticks_left : s.left.0 ≡ d - c.fastest.0 - ticks_of c
     unfolding slowed_to
-    ticks_left = rw is (rw all_ticks)
+    ticks_left = rw is (rw (all_ticks, asked))
 
-    pub past_slowest : (r : Power) → r ≡ off_curve d → 0 < s.left.0 → r ≡ power_at_of c d
+    pub past_slowest : (e : Refusal) → e ≡ refusal_at OffCurve d → 0 < s.left.0 → Err e ≡ power_at_of c d
     unfolding slowest_of
-    past_slowest r off more = off ∙ sym (power_at_past c d (omega (arith, ticks_left)))
+    past_slowest e off more = ap Err off ∙ sym (power_at_past c d (omega (arith, ticks_left)))
 
-    pub on_curve : s.left.0 ≤ 0 → At s.power ≡ power_at_of c d
+    pub on_curve : s.left.0 ≤ 0 → Ok s.power ≡ power_at_of c d
     unfolding slowest_of power_of slowed_to
     on_curve none =
-        let used : min (d - c.fastest.0) (sum k (length_at c)) ≡ d - c.fastest.0 = omega (arith, ticks_left, all_ticks) in
-        let within : power_at_of c d ≡ At (record { 0 = power_of c d }) = power_at_on c d from (omega (arith, ticks_left)) in
+        let used : min j (sum k (length_at c)) ≡ d - c.fastest.0 = omega (arith, ticks_left, all_ticks) in
+        let within : power_at_of c d ≡ Ok (record { 0 = power_of c d }) = power_at_on c d from (omega (arith, ticks_left)) in
         rw (within, is, used)
 
 -- ---- place_is_good and is_good

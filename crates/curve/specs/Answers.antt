@@ -1,17 +1,13 @@
 -- What is asked of a curve, and its answers: the flat curve, the saving of a tick by its delay, the power at a delay or its refusal.
 -- Assumes nothing.
-use Rattle.std.specs.Prelude.{ℕ, ◌*◌, ◌-◌, min, ltb, leb, replicate}
+use Rattle.std.specs.Prelude.{ℕ, ◌*◌, ◌-◌, min, ltb, leb, replicate, Option, Some, None, Ok}
 use Rattle.base.specs.Pick.{pick}
-use Rattle.refusal.specs.Refusal.{by}
+use Rattle.refusal.specs.Refusal.{Answer, refusal}
 use Rattle.curve.specs.declared.Ticks.{Ticks}
 use Rattle.curve.specs.declared.Microwatts.{Microwatts}
 use Rattle.curve.specs.declared.Run.{Run}
 use Rattle.curve.specs.declared.Curve.{Curve}
 use Rattle.curve.specs.declared.Slowing.{Slowing}
-use Rattle.curve.specs.declared.Power.{Power}
-use Rattle.curve.specs.declared.Power.TheVariants.{At, Refused}
-use Rattle.curve.specs.declared.Last.{Last}
-use Rattle.curve.specs.declared.Last.TheVariants.{Saving, Unused}
 use Rattle.curve.specs.Curve.{no_run, slowest_of, saving_of, power_of}
 
 -- "The flat curve, a curve with no runs"
@@ -23,16 +19,16 @@ unfoldable pub next_saving_of : Curve → ℕ → ℕ
 next_saving_of c d = saving_of c (d - c.fastest.0)
 
 -- the saving of the last tick used at delay d; up to the fastest none is used
-unfoldable pub last_saving_of : Curve → ℕ → Last
-last_saving_of c d = pick (leb d c.fastest.0) Unused (Saving (record { 0 = next_saving_of c (d - 1) }))
+unfoldable pub last_saving_of : Curve → ℕ → Option Microwatts
+last_saving_of c d = pick (leb d c.fastest.0) None (Some (record { 0 = next_saving_of c (d - 1) }))
 
 -- refusal 19: "delay outside the part's curve", place: "the delay"
-abbrev pub off_curve : ℕ → Power
-off_curve d = Refused (by 19) d
+abbrev pub off_curve : ℕ → Answer Microwatts
+off_curve d = refusal 19 d
 
 -- "Power of a part at a delay": its power there, from the fastest to the slowest
-unfoldable pub power_at_of : Curve → ℕ → Power
-power_at_of c d = pick (ltb d c.fastest.0) (off_curve d) (pick (ltb (slowest_of c) d) (off_curve d) (At (record { 0 = power_of c d })))
+unfoldable pub power_at_of : Curve → ℕ → Answer Microwatts
+power_at_of c d = pick (ltb d c.fastest.0) (off_curve d) (pick (ltb (slowest_of c) d) (off_curve d) (Ok (record { 0 = power_of c d })))
 
 -- a run's ticks are used, as far as there are ticks left to use
 unfoldable pub used_of : Slowing → Run → Slowing

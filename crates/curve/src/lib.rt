@@ -3,53 +3,37 @@
 // greatest.
 #![tactic(auto)]
 
-ghost use Rattle.std.specs.Prelude.{◌≡◌, ◌+◌, ◌*◌, ◌-◌, ◌<◌, max, min, leb};
+ghost use Rattle.std.specs.Prelude.{◌≡◌, ◌+◌, ◌*◌, ◌-◌, ◌<◌, min, eqb, leb};
 ghost use Rattle.base.specs.Decides.{Decides};
-ghost use Rattle.base.specs.Table.{table};
 ghost use Rattle.curve.specs.Curve.{slowest_of, savings_of, Good};
-ghost use Rattle.curve.specs.Rows.{no_ticks, no_power};
-ghost use Rattle.curve.specs.Answers.{flat_of, next_saving_of, last_saving_of, off_curve, power_at_of, used_of};
+ghost use Rattle.curve.specs.Answers.{flat_of, next_saving_of, last_saving_of, power_at_of, used_of};
 ghost use Rattle.curve.specs.Tests.{every, blankb, rangedb, placeb};
 
-use base::lesser;
-use refusal::Why;
+use refusal::{Answer, Why};
 
 // A count of ticks.
-#[derive(Clone, Copy)]
+#[derive(Clone, Copy, PartialEq, Eq, PartialOrd, Ord)]
 pub struct Ticks(pub u32);
 
 // A power.
-#[derive(Clone, Copy)]
+#[derive(Clone, Copy, PartialEq, Eq, PartialOrd, Ord)]
 pub struct Microwatts(pub u32);
 
 // Some ticks in a row that save the same each.
-#[derive(Clone, Copy)]
+#[derive(Clone, Copy, PartialEq, Eq)]
 pub struct Run {
     pub length: Ticks,
     pub saving: Microwatts,
 }
 
 // The first `count` of `runs` are the curve's; the others are blank.
-#[derive(Clone, Copy)]
+// Kept: (a) memory is fixed, and every contract holds for any count: `slowest_of` and the like take at most four runs.
+#[derive(Clone, Copy, PartialEq, Eq)]
 pub struct Curve {
     pub fastest: Ticks,
     pub power: Microwatts,
     pub count: usize,
     pub runs: [Run; 4],
-}
-
-// The power at a delay, or why there is none.
-#[derive(Clone, Copy)]
-pub enum Power {
-    At(Microwatts),
-    Refused { why: Why, place: usize },
-}
-
-// What the last tick used saves; at the fastest delay none is used.
-#[derive(Clone, Copy)]
-pub enum Last {
-    Saving(Microwatts),
-    Unused,
 }
 
 // A delay on its way along a curve: the ticks still to be used, and the power with those used so far.
@@ -59,37 +43,12 @@ struct Slowing {
     power: Microwatts,
 }
 
-// No ticks at any of the 64 places that parts may have.
-pub fn no_ticks() -> [Ticks; 64]
-    ensures { result ≡ table 64 (λ p. no_ticks) }
-{
-    [Ticks(0); 64]
-}
-
-// No power at any.
-pub fn no_powers() -> [Microwatts; 64]
-    ensures { result ≡ table 64 (λ p. no_power) }
-{
-    [Microwatts(0); 64]
-}
-
-// How far a is above b.
-fn above(a: u32, b: u32) -> u32
-    ensures { result ≡ a - b }
-{
-    if a < b { 0 } else { a - b }
-}
-
 // The power less the saving of each tick used. The product is taken wide, and a power does not fall below 0.
 fn less_saved(power: Microwatts, used: Ticks, saving: Microwatts) -> Microwatts
     ensures { result.0 ≡ power.0 - used.0 * saving.0 }
 {
-    let all = power.0 as u64;
-    let saved = (used.0 as u64) * (saving.0 as u64);
-    if all <= saved {
-        return Microwatts(0);
-    }
-    Microwatts((all - saved) as u32)
+    let saved = used.0 as u64 * saving.0 as u64;
+    Microwatts((power.0 as u64).saturating_sub(saved) as u32)
 }
 
 impl Ticks {
@@ -97,40 +56,21 @@ impl Ticks {
     pub fn plus(self, more: Ticks) -> Ticks
         ensures { result.0 ≡ min (self.0 + more.0) 4294967295 }
     {
-        if u32::MAX - self.0 < more.0 {
-            return Ticks(u32::MAX);
-        }
-        Ticks(self.0 + more.0)
+        Ticks(self.0.saturating_add(more.0))
     }
 
     // What is left of these ticks after others; none where those are more.
     pub fn less(self, other: Ticks) -> Ticks
         ensures { result.0 ≡ self.0 - other.0 }
     {
-        if self.0 < other.0 {
-            Ticks(0)
-        } else {
-            Ticks(self.0 - other.0)
-        }
+        Ticks(self.0.saturating_sub(other.0))
     }
 
-    // The greater of two counts of ticks: the later of two times.
-    pub fn later(self, other: Ticks) -> Ticks
-        ensures { result.0 ≡ max self.0 other.0 }
+    // Whether these ticks and more are as many as others. The difference is compared, so no sum can pass its type.
+    pub fn reach(self, more: Ticks, other: Ticks) -> bool
+        ensures { result ≡ eqb (self.0 + more.0) other.0 }
     {
-        if self.0 < other.0 { other } else { self }
-    }
-}
-
-impl Power {
-    // Refusal 19, with the delay as its place.
-    fn off_curve(delay: Ticks) -> Power
-        ensures { result ≡ off_curve delay.0 }
-    {
-        Power::Refused {
-            why: Why::OffCurve,
-            place: delay.0 as usize,
-        }
+        self.0 <= other.0 && other.0 - self.0 == more.0
     }
 }
 
@@ -139,10 +79,9 @@ impl Slowing {
     fn used(self, run: Run) -> Slowing
         ensures { result ≡ used_of self run }
     {
-        let left = above(self.left.0, run.length.0);
-        let used = Ticks(self.left.0 - left);
+        let used = self.left.min(run.length);
         Slowing {
-            left: Ticks(left),
+            left: self.left.less(run.length),
             power: less_saved(self.power, used, run.saving),
         }
     }
@@ -153,33 +92,24 @@ impl Run {
     fn is_blank(self) -> bool
         ensures { result ≡ blankb self }
     {
-        if self.length.0 != 0 {
-            return false;
-        }
-        self.saving.0 == 0
+        self.length.0 == 0 && self.saving.0 == 0
     }
 
     // Whether length and saving are within their ranges.
     fn is_ranged(self) -> bool
         ensures { result ≡ rangedb self }
     {
-        if self.length.0 < Curve::LENGTH_MIN {
-            return false;
-        }
-        if Curve::LENGTH_MAX < self.length.0 {
-            return false;
-        }
-        if self.saving.0 < Curve::SAVING_MIN {
-            return false;
-        }
-        self.saving.0 <= Curve::SAVING_MAX
+        Curve::LENGTH_MIN <= self.length.0
+            && self.length.0 <= Curve::LENGTH_MAX
+            && Curve::SAVING_MIN <= self.saving.0
+            && self.saving.0 <= Curve::SAVING_MAX
     }
 
     // What all its ticks save, taken wide.
     fn saved(self) -> u64
         ensures { result ≡ self.length.0 * self.saving.0 }
     {
-        (self.length.0 as u64) * (self.saving.0 as u64)
+        self.length.0 as u64 * self.saving.0 as u64
     }
 }
 
@@ -220,13 +150,11 @@ impl Curve {
     pub fn slowest(self) -> Ticks
         ensures { result.0 ≡ min (slowest_of self) 4294967295 }
     {
-        let n = lesser(self.count, Self::RUNS_MAX);
+        let n = self.count.min(Self::RUNS_MAX);
         let mut delay = self.fastest;
-        let mut k: usize = 0;
-        while k < n {
+        for k in 0..n {
             let run = self.runs[k];
             delay = delay.plus(run.length);
-            k = k + 1;
         }
         delay
     }
@@ -235,17 +163,15 @@ impl Curve {
     pub fn affords_savings(self) -> bool
         ensures { result ≡ leb (savings_of self) self.power.0 }
     {
-        let n = lesser(self.count, Self::RUNS_MAX);
+        let n = self.count.min(Self::RUNS_MAX);
         let mut left = self.power.0 as u64;
-        let mut k: usize = 0;
-        while k < n {
+        for k in 0..n {
             let run = self.runs[k];
             let saved = run.saved();
             if left < saved {
                 return false;
             }
-            left = left - saved;
-            k = k + 1;
+            left -= saved;
         }
         true
     }
@@ -254,56 +180,50 @@ impl Curve {
     pub fn next_saving(self, delay: Ticks) -> Microwatts
         ensures { result.0 ≡ next_saving_of self delay.0 }
     {
-        let n = lesser(self.count, Self::RUNS_MAX);
-        let mut left = above(delay.0, self.fastest.0);
-        let mut k: usize = 0;
-        while k < n {
+        let n = self.count.min(Self::RUNS_MAX);
+        let mut left = delay.0.saturating_sub(self.fastest.0);
+        for k in 0..n {
             let run = self.runs[k];
             if left < run.length.0 {
                 return run.saving;
             }
-            left = left - run.length.0;
-            k = k + 1;
+            left -= run.length.0;
         }
         Microwatts(0)
     }
 
-    // The saving of the last tick used, 0 past the slowest.
-    pub fn last_saving(self, delay: Ticks) -> Last
+    // The saving of the last tick used, 0 past the slowest; at the fastest delay none is used.
+    pub fn last_saving(self, delay: Ticks) -> Option<Microwatts>
         ensures { result ≡ last_saving_of self delay.0 }
     {
-        if delay.0 <= self.fastest.0 {
-            return Last::Unused;
+        if delay <= self.fastest {
+            return None;
         }
-        Last::Saving(self.next_saving(Ticks(delay.0 - 1)))
+        Some(self.next_saving(Ticks(delay.0 - 1)))
     }
 
-    // The power at a delay. Ticks that no run takes are past the slowest.
-    pub fn power_at(self, delay: Ticks) -> Power
+    // The power at a delay, or refusal 19. Ticks that no run takes are past the slowest.
+    pub fn power_at(self, delay: Ticks) -> Answer<Microwatts>
         ensures { result ≡ power_at_of self delay.0 }
     {
         let fastest = self.fastest;
-        let refused = Power::off_curve(delay);
-        if delay.0 < fastest.0 {
-            return refused;
+        let off_curve = Why::OffCurve.at(delay.0 as usize);
+        if delay < fastest {
+            return Err(off_curve);
         }
-        let n = lesser(self.count, Self::RUNS_MAX);
-        let power = self.power;
+        let n = self.count.min(Self::RUNS_MAX);
         let mut slowing = Slowing {
-            left: Ticks(delay.0 - fastest.0),
-            power,
+            left: delay.less(fastest),
+            power: self.power,
         };
-        let mut k: usize = 0;
-        while k < n {
+        for k in 0..n {
             let next = self.runs[k];
             slowing = slowing.used(next);
-            k = k + 1;
         }
         if 0 < slowing.left.0 {
-            return refused;
+            return Err(off_curve);
         }
-        let least = slowing.power;
-        Power::At(least)
+        Ok(slowing.power)
     }
 
     // Whether place k holds a run in range that saves less than the run before it, or is blank past the last run.
@@ -329,12 +249,10 @@ impl Curve {
     fn places_are_good(self) -> bool
         ensures { result ≡ every 4 (placeb self) }
     {
-        let mut k: usize = 0;
-        while k < Self::RUNS_MAX {
+        for k in 0..Self::RUNS_MAX {
             if !self.place_is_good(k) {
                 return false;
             }
-            k = k + 1;
         }
         true
     }

@@ -1,58 +1,50 @@
 // Whether loads are a sheet: none above 64,000, and as much to each part's start and end as from it.
+ghost use Rattle.std.specs.Prelude.{◌≡◌, ◌↔◌, IsTrue, EachIndex, slice_index};
 ghost use Rattle.nets.specs.Sheet.{SoundIn};
-ghost use Rattle.deciding.specs.Balancing.{WeighableIn, WeighsIn, WeighingIn, WeighedIn, BalancedIn};
+ghost use Rattle.deciding.specs.Balancing.{Weighable, Weighs, Weighing, WeighedIn, BalancedIn};
 
-use crate::raising;
+use nets::Net;
 
 // What every sum starts at, so that none falls below 0.
 const LEVEL: u32 = 30000000;
 
-// The load of arc `a` goes to the sum of its head, and from that of its tail. The sums stand in the region of rooms.
-fn carry(net: &[u32; 2048], work: &mut [u32; 968], a: usize)
-    requires { WeighableIn net.now work.old a }
-    ensures { WeighsIn net.now work.old a work.new }
+// The load of arc `a` goes to the sum of its head, and from that of its tail.
+fn carry(net: &Net, load: &[u32; 448], sum: &mut [u32; 130], a: usize)
+    requires { Weighable net.now load.now sum.old a }
+    ensures { Weighs net.now load.now sum.old a sum.new }
 {
-    nets::seen(work);
-    let x = work[nets::LOAD + a];
-    let v = net[nets::HEAD + a] as usize;
-    work[nets::ROOM + v] = work[nets::ROOM + v] + x;
-    let u = net[nets::TAIL + a] as usize;
-    work[nets::ROOM + u] = work[nets::ROOM + u] - x;
+    let x = load[a];
+    sum[net.head[a] as usize] += x;
+    sum[net.tail[a] as usize] -= x;
 }
 
 // The sums of all arcs; no, where a load is above 64,000.
-fn weigh(net: &[u32; 2048], work: &mut [u32; 968]) -> bool
+fn weigh(net: &Net, load: &[u32; 448], sum: &mut [u32; 130]) -> bool
     requires sound_in { SoundIn net.now }
-    requires weighing_in { WeighingIn net.now work.old 0 work.old }
-    ensures { WeighedIn net.now work.old work.new result }
+    requires weighing { Weighing net.now load.now 0 sum.old }
+    ensures { WeighedIn net.now load.now sum.new result }
 {
-    let arcs = net[nets::ARCS] as usize;
-    let mut a: usize = 0;
-    while a < arcs {
-        if 64000 < work[nets::LOAD + a] {
+    for a in 0..net.arcs as usize {
+        if 64000 < load[a] {
             return false;
         }
-        carry(net, work, a);
-        a = a + 1;
+        carry(net, load, sum, a);
     }
     true
 }
 
-// Whether the loads are a sheet.
-pub(crate) fn balanced(net: &[u32; 2048], work: &mut [u32; 968]) -> bool
-    requires { SoundIn net.now }
-    ensures { BalancedIn net.now work.old work.new result }
+// Whether all sums are as they started.
+fn level(sum: &[u32]) -> bool
+    ensures { IsTrue result ↔ EachIndex sum.now (λ v. slice_index sum.now v ≡ LEVEL) }
 {
-    raising::fill(work, nets::ROOM, 130, LEVEL);
-    if !weigh(net, work) {
-        return false;
-    }
-    let mut v: usize = 0;
-    while v < 128 {
-        if work[nets::ROOM + v] != LEVEL {
-            return false;
-        }
-        v = v + 1;
-    }
-    true
+    sum.iter().all(|s| *s == LEVEL)
+}
+
+// Whether the loads are a sheet. `sum` is room for the sums of the nodes.
+pub(crate) fn balanced(net: &Net, load: &[u32; 448], sum: &mut [u32; 130]) -> bool
+    requires { SoundIn net.now }
+    ensures { BalancedIn net.now load.now result }
+{
+    sum.fill(LEVEL);
+    weigh(net, load, sum) && level(&sum[..128])
 }

@@ -1,93 +1,93 @@
-// Raising: from all times at 0 and the sink at the deadline nodes are raised as the arcs ask, and no further, until no arc asks.
-ghost use Rattle.std.specs.Prelude.{◌+◌, ◌≤◌};
-ghost use Rattle.deciding.specs.Raising.{FairIn, WithinIn, SettledIn, FollowedIn, SweptIn, FilledIn, DecidedIn};
+// Raising: from all times at 0 and the sink at the deadline nodes are raised as the arcs ask, and no further, until no arc asks. Nothing comes of it where
+// an arc asks what cannot be had.
+ghost use Rattle.deciding.specs.Raising.{FairIn, Within, SettledIn, FollowedIn, SweptIn, RaisedIn, DecidedIn};
 
 use crate::asking;
-use mainloop::judging;
+use nets::Net;
 
-// Arc `a` is given what it asks for. 2: it asked for nothing; 1: a node was raised; 0: it cannot be had. A number that is no arc asks for nothing.
-fn settle(net: &[u32; 2048], work: &mut [u32; 968], due: u32, a: u32) -> u32
+// Arc `a` is given what it asks for: whether a node was raised. A number that is no arc asks for nothing.
+fn settle(net: &Net, time: &mut [u32; 130], load: &[u32; 448], due: u32, a: u32) -> Option<bool>
     requires fair_in { FairIn net.now due }
-    requires within_in { WithinIn due work.old }
-    ensures { SettledIn net.now due work.old a work.new result }
+    requires within { Within due time.old }
+    ensures { SettledIn net.now load.now due time.old a time.new result }
 {
-    nets::seen(work);
-    if net[nets::ARCS] <= a {
-        return 2;
+    if net.arcs <= a {
+        return Some(false);
     }
     let b = a as usize;
-    let r = asking::ask(net, b, asking::ends_at(net, work, b));
-    if 130 <= r.node {
-        return 2;
-    }
+    let Some(r) = asking::ask(net, b, asking::ends_at(net, time, load, b)) else {
+        return Some(false);
+    };
     if r.node == 128 {
-        return 0;
+        return None;
     }
     if due < r.time {
-        return 0;
+        return None;
     }
-    work[nets::TIME + r.node] = r.time;
-    1
+    time[r.node] = r.time;
+    Some(true)
 }
 
-// The arcs that stand in the region of ways, one after another.
-fn follow(net: &[u32; 2048], work: &mut [u32; 968], due: u32)
+// The arcs of `via`, one after another.
+fn follow(
+    net: &Net,
+    time: &mut [u32; 130],
+    load: &[u32; 448],
+    via: &[u32; 130],
+    due: u32,
+) -> Option<()>
     requires fair_in { FairIn net.now due }
-    requires within_in { WithinIn due work.old }
-    ensures { FollowedIn net.now due work.old work.new }
+    requires within { Within due time.old }
+    ensures { FollowedIn net.now load.now due time.old time.new result }
 {
-    let mut k: usize = 0;
-    while k < 130 {
-        let a = work[nets::VIA + k];
-        settle(net, work, due, a);
-        k = k + 1;
+    for a in via {
+        settle(net, time, load, due, *a)?;
     }
+    Some(())
 }
 
-// All arcs, one after another: the least that came of one.
-fn sweep(net: &[u32; 2048], work: &mut [u32; 968], due: u32) -> u32
+// All arcs, one after another: whether a node was raised.
+fn sweep(net: &Net, time: &mut [u32; 130], load: &[u32; 448], due: u32) -> Option<bool>
     requires fair_in { FairIn net.now due }
-    requires within_in { WithinIn due work.old }
-    ensures { SweptIn net.now due work.old work.new result }
+    requires within { Within due time.old }
+    ensures { SweptIn net.now load.now due time.old time.new result }
 {
-    let arcs = net[nets::ARCS];
-    let mut r: u32 = 2;
-    let mut a: u32 = 0;
-    while a < arcs {
-        r = judging::lesser(r, settle(net, work, due, a));
-        a = a + 1;
+    let mut raised = false;
+    for a in 0..net.arcs {
+        raised |= settle(net, time, load, due, a)?;
     }
-    r
+    Some(raised)
 }
 
-// The `n` cells from `from` on are `y`.
-pub(crate) fn fill(work: &mut [u32; 968], from: usize, n: usize, y: u32)
-    requires n_bound { n ≤ 968 }
-    requires n_bound_2 { from + n ≤ 968 }
-    ensures { FilledIn work.old from n y n work.new }
+// The arcs of `via`, and then all arcs until none asks.
+fn raise(
+    net: &Net,
+    time: &mut [u32; 130],
+    load: &[u32; 448],
+    via: &[u32; 130],
+    due: u32,
+) -> Option<()>
+    requires fair_in { FairIn net.now due }
+    requires within { Within due time.old }
+    ensures { RaisedIn net.now load.now due time.old time.new result }
 {
-    nets::seen(work);
-    let mut k: usize = 0;
-    while k < n {
-        work[from + k] = y;
-        k = k + 1;
-    }
+    follow(net, time, load, via, due)?;
+    while sweep(net, time, load, due)? {}
+    Some(())
 }
 
 // The first times that fit the loads and end at the deadline, or no.
-pub(crate) fn decide(net: &[u32; 2048], work: &mut [u32; 968], due: u32) -> bool
+pub(crate) fn decide(
+    net: &Net,
+    time: &mut [u32; 130],
+    load: &[u32; 448],
+    via: &[u32; 130],
+    due: u32,
+) -> bool
     requires { FairIn net.now due }
-    ensures { DecidedIn net.now due work.old work.new result }
+    ensures { DecidedIn net.now load.now due time.new result }
 {
-    fill(work, nets::TIME, 130, 0);
-    work[nets::TIME + 129] = due;
-    follow(net, work, due);
-    let mut r: u32 = 1;
-    while r == 1 {
-        r = sweep(net, work, due);
-    }
-    if r == 2 {
-        return true;
-    }
-    false
+    time.fill(0);
+    time[129] = due;
+    raise(net, time, load, via, due).is_some()
 }

@@ -4,13 +4,13 @@ use mathlib.Core.Path.{◌≡◌, refl, sym, ap, subst, ◌∙◌}
 use mathlib.Core.List.{List}
 use Prim.Native.Nat.{ℕ}
 use lib.ListN.{length}
-use Rattle.refusal.specs.declared.Answer.{Answer}
-use Rattle.refusal.specs.declared.Answer.TheVariants.{Done}
+use Rattle.refusal.specs.Refusal.{Answer}
+use Rattle.std.specs.Prelude.{Ok, Err}
 use Rattle.board.specs.declared.Rule.{Rule}
 use Rattle.board.specs.declared.Board.{Board}
 use Rattle.board.specs.Board.{WellFormed, rule_number, under_rule}
 use Rattle.board.proofs.UsableLaws.{one_rule}
-use Rattle.fields.specs.Parse.{Parse, got, stop}
+use Rattle.groups.specs.Parse.{Parse}
 use Rattle.design.specs.Design.{design_of, file_of}
 use Rattle.design.proofs.DesignLaws.{written_read, written_read_under}
 use Rattle.desk.specs.declared.Tally.{Tally}
@@ -25,15 +25,15 @@ use Rattle.demands.specs.Loads.{Describes, Accepted, Came}
 use Rattle.demands.proofs.Steps.{kept_plannable}
 
 module _ (d : Desk) (t : Tally) (r : Loaded) where
-  judged_accepted : (b : Board) → r.answer ≡ Done → LoadJudged b d t r → Accepted b r
+  judged_accepted : (b : Board) → r.answer ≡ Ok tt → LoadJudged b d t r → Accepted b r
   judged_accepted b done j = record {
     done = done;
-    board = j.judged.board done;
     holding = j.judged.holding done;
-    tally = j.tally ∙ ap (λ (a : Answer). tally_loaded a t) done;
+    board = j.judged.board done;
+    tally = j.tally ∙ ap (λ (a : Answer Unit). tally_loaded a t) done;
   }
 
-  judged_done : (b : Board) → Plannable b → LoadJudged b d t r → r.answer ≡ Done
+  judged_done : (b : Board) → Plannable b → LoadJudged b d t r → r.answer ≡ Ok tt
   judged_done b ok j = verdict_done b ok.formed ok.free ok.budget j.judged.verdict
 
   -- a load that names a rule reads under it
@@ -48,20 +48,20 @@ module _ (d : Desk) (t : Tally) (r : Loaded) where
       judged_accepted b (judged_done b ok j) j
 
   -- where it is accepted, none applied, and the board is the file's
-  parsed_came : (named : Rule) (s : List ℕ) (p : Parse Board) → design_of named s ≡ p → LoadParsed p d t r → r.answer ≡ Done → Came (rule_number named) s r
-  parsed_came named s (stop why place) e is done = never (sym (ap (λ (x : Loaded). x.answer) is) ∙ done)
-  parsed_came named s (got b next) e j done =
-      let so = judged_accepted b done j in
+  parsed_came : (named : Rule) (s : List ℕ) (p : Parse Board) → design_of named s ≡ p → LoadParsed p d t r → r.answer ≡ Ok tt → Came (rule_number named) s r
+  parsed_came named s (Err x) e is done = never (sym (ap (λ (x : Loaded). x.answer) is) ∙ done)
+  parsed_came named s (Ok x) e j done =
+      let so = judged_accepted x.value done j in
       record {
         named = named;
         numbered = refl;
-        of = b;
-        file = record { size = next; read = e };
-        plannable = rw so.board at (kept_plannable r.desk.board r.desk.budget so.holding.kept);
+        of = x.value;
+        file = record { size = x.next; read = e };
+        plannable = rw so.board at (kept_plannable so.holding.held.board so.holding.held.budget so.holding.kept);
         so = so;
       }
 
-  pub load_accepted : (rule : ℕ) (s : List ℕ) → LoadSaid d rule s t r → r.answer ≡ Done → Came rule s r
+  pub load_accepted : (rule : ℕ) (s : List ℕ) → LoadSaid d rule s t r → r.answer ≡ Ok tt → Came rule s r
   load_accepted rule s (load.unruled none is) done = never (sym (ap (λ (x : Loaded). x.answer) is) ∙ done)
   load_accepted rule s (load.ruled named e read) done =
       subst (λ (x : ℕ). Came x s r) (sym e) (parsed_came named s (design_of named s) refl read.parsed done)

@@ -1,13 +1,11 @@
 -- Two results that one input allows are the same but for the advice, and a refused call leaves what is held as it was.
 -- Assumes nothing.
 use mathlib.Core.Path.{◌≡◌, refl, sym, ap, subst, ◌∙◌}
-use mathlib.Core.Bool.{true}
 use mathlib.Core.List.{List, []}
 use Prim.Native.Nat.{ℕ}
-use native.Mathlib.Omega.{arith}
-use Rattle.refusal.specs.declared.Why.{Why}
-use Rattle.refusal.specs.declared.Answer.{Answer}
-use Rattle.refusal.specs.declared.Answer.TheVariants.{Done, Refused}
+use Rattle.refusal.specs.declared.Refusal.{Refusal}
+use Rattle.refusal.specs.Refusal.{Answer}
+use Rattle.std.specs.Prelude.{Ok, Err}
 use Rattle.board.specs.declared.Rule.{Rule}
 use Rattle.board.specs.declared.Board.{Board}
 use Rattle.board.specs.Board.{WellFormed}
@@ -16,7 +14,7 @@ use Rattle.slow.specs.declared.Trail.{Trail}
 use Rattle.slow.specs.Walk.{trail_of}
 use Rattle.budget.specs.Budget.{Holds}
 use Rattle.budget.proofs.BudgetLaws.{holds_once}
-use Rattle.fields.specs.Parse.{Parse, got, stop}
+use Rattle.groups.specs.Parse.{Parse, got}
 use Rattle.design.specs.Design.{design_of}
 use Rattle.design.proofs.DesignLaws.{design_well_formed}
 use Rattle.orders.specs.declared.Order.{Order}
@@ -26,33 +24,42 @@ use Rattle.desk.specs.declared.Tally.{Tally}
 use Rattle.desk.specs.declared.Desk.{Desk}
 use Rattle.desk.specs.declared.Loaded.{Loaded}
 use Rattle.desk.specs.declared.Ordered.{Ordered}
-use Rattle.desk.specs.Held.{Holding, Standing, empty, holding}
+use Rattle.desk.specs.declared.Held.{Held}
+use Rattle.std.specs.Prelude.{Option, Some, None}
+use Rattle.desk.specs.Held.{Holding, Standing}
 use Rattle.desk.specs.Judged.{BoardJudged}
 use Rattle.desk.specs.Load.{tally_loaded, LoadJudged, LoadParsed, LoadRead, LoadSaid}
 use Rattle.desk.specs.Order.{changed_of, tried_of, refused_tally, tally_ordered, order_refused, OrderJudged, OrderTried, OrderParsed, OrderSaid}
 use Rattle.desk.specs.Load as load
-use Rattle.demands.specs.Same.{SameDesk, SameLoaded, SameOrdered}
+use Rattle.demands.specs.Same.{SameHeld, SameDesk, SameLoaded, SameOrdered}
+use Rattle.demands.specs.Same as same
 use Rattle.solver.proofs.VerdictLaws.{verdict_once}
-use Rattle.desk.proofs.Tried.{tried_passed, tried_fits, changed_well}
+use Rattle.desk.proofs.Tried.{same_err, standing_kept, tried_passed, tried_fits, changed_well}
 
 -- ---- desks with one board
-pub same_desk : (d d' : Desk) → d ≡ d' → SameDesk d d'
-same_desk d d' e = record { held = ap (λ (x : Desk). x.held) e; board = ap (λ (x : Desk). x.board) e; budget = ap (λ (x : Desk). x.budget) e }
+same_held : {h h' : Held} → h ≡ h' → SameHeld h h'
+same_held e = record { board = ap (λ (x : Held). x.board) e; budget = ap (λ (x : Held). x.budget) e }
 
-pub one_board : (d d' : Desk) → Holding d → Holding d' → d.board ≡ d'.board → SameDesk d d'
+same_as : (held : Option Held) (d d' : Desk) → d.held ≡ held → d'.held ≡ held → SameDesk d d'
+same_as None d d' is is' = same.empty is is'
+same_as (Some h) d d' is is' = same.holding is is' (same_held refl)
+
+pub same_desk : (d d' : Desk) → d ≡ d' → SameDesk d d'
+same_desk d d' e = same_as d'.held d d' (ap (λ (x : Desk). x.held) e) refl
+
+pub one_board : (d d' : Desk) (h : Holding d) (h' : Holding d') → h.held.board ≡ h'.held.board → SameDesk d d'
 one_board d d' h h' e =
-    let other : Holds d.board d'.budget = rw e h'.kept.holds in
-    record {
-      held = h.held ∙ sym h'.held;
+    let other : Holds h.held.board h'.held.budget = rw e h'.kept.holds in
+    same.holding h.is h'.is (record {
       board = e;
-      budget = holds_once d.board h.kept.formed d.budget d'.budget h.kept.holds other;
-    }
+      budget = holds_once h.held.board h.kept.formed h.held.budget h'.held.budget h.kept.holds other;
+    })
 
 -- ---- what a board comes to
-module _ (b : Board) (d : Desk) {a a' : Answer} {p p' : Trail} {e e' : Desk} (j : BoardJudged b d a p e) (j' : BoardJudged b d a' p' e') where
-  desk_once : (answer : Answer) → a ≡ answer → a' ≡ answer → SameDesk e e'
-  desk_once Done h h' = one_board e e' (j.holding h) (j'.holding h') (j.board h ∙ sym (j'.board h'))
-  desk_once (Refused why place) h h' = same_desk e e' (j.stays why place h ∙ sym (j'.stays why place h'))
+module _ (b : Board) (d : Desk) {a a' : Answer Unit} {p p' : Trail} {e e' : Desk} (j : BoardJudged b d a p e) (j' : BoardJudged b d a' p' e') where
+  desk_once : (answer : Answer Unit) → a ≡ answer → a' ≡ answer → SameDesk e e'
+  desk_once (Ok done) h h' = one_board e e' (j.holding h) (j'.holding h') (j.board h ∙ sym (j'.board h'))
+  desk_once (Err x) h h' = same_desk e e' (j.stays x h ∙ sym (j'.stays x h'))
 
   judged_once : WellFormed b → (a ≡ a') × (p ≡ p') × SameDesk e e'
   judged_once w =
@@ -76,14 +83,14 @@ module _ (d : Desk) (t : Tally) where
         answer = one.0;
         path = one.1;
         desk = one.2;
-        tally = j.tally ∙ ap (λ (a : Answer). tally_loaded a t) one.0 ∙ sym j'.tally;
+        tally = j.tally ∙ ap (λ (a : Answer Unit). tally_loaded a t) one.0 ∙ sym j'.tally;
       }
 
   load_parsed_once :
       (p : Parse Board) → ((b : Board) (next : ℕ) → p ≡ got b next → WellFormed b) → (r r' : Loaded) → LoadParsed p d t r →
       LoadParsed p d t r' → SameLoaded r r'
-  load_parsed_once (stop why place) well r r' is is' = same_loaded r r' (is ∙ sym is')
-  load_parsed_once (got b next) well r r' j j' = load_judged_once b (well b next refl) r r' j j'
+  load_parsed_once (Err x) well r r' is is' = same_loaded r r' (is ∙ sym is')
+  load_parsed_once (Ok x) well r r' j j' = load_judged_once x.value (well x.value x.next refl) r r' j j'
 
   load_read_once : (named : Rule) (s : List ℕ) (r r' : Loaded) → LoadRead d named s t r → LoadRead d named s t r' → SameLoaded r r'
   load_read_once named s r r' read read' = load_parsed_once (design_of named s) (design_well_formed named s) r r' read.parsed read'.parsed
@@ -96,16 +103,16 @@ module _ (d : Desk) (t : Tally) where
       load_read_once named s r r' read (subst (λ (x : Rule). LoadRead d x s t r') (one_rule named' named (sym e' ∙ e)) read')
 
   -- a refused load changes nothing
-  load_judged_kept : (b : Board) (r : Loaded) {why : Why} {place : ℕ} → LoadJudged b d t r → r.answer ≡ Refused why place → (r.desk ≡ d) × (r.tally ≡ t)
-  load_judged_kept b r {why} {place} j e = (j.judged.stays why place e, j.tally ∙ ap (λ (a : Answer). tally_loaded a t) e)
+  load_judged_kept : (b : Board) (r : Loaded) {x : Refusal} → LoadJudged b d t r → r.answer ≡ Err x → (r.desk ≡ d) × (r.tally ≡ t)
+  load_judged_kept b r {x} j e = (j.judged.stays x e, j.tally ∙ ap (λ (a : Answer Unit). tally_loaded a t) e)
 
   load_parsed_kept :
-      (p : Parse Board) (r : Loaded) {why : Why} {place : ℕ} → LoadParsed p d t r → r.answer ≡ Refused why place → (r.desk ≡ d) × (r.tally ≡ t)
-  load_parsed_kept (stop why place) r is e = (ap (λ (x : Loaded). x.desk) is, ap (λ (x : Loaded). x.tally) is)
-  load_parsed_kept (got b next) r j e = load_judged_kept b r j e
+      (p : Parse Board) (r : Loaded) {x : Refusal} → LoadParsed p d t r → r.answer ≡ Err x → (r.desk ≡ d) × (r.tally ≡ t)
+  load_parsed_kept (Err y) r is e = (ap (λ (x : Loaded). x.desk) is, ap (λ (x : Loaded). x.tally) is)
+  load_parsed_kept (Ok y) r j e = load_judged_kept y.value r j e
 
   pub load_refused_stays :
-      (rule : ℕ) (s : List ℕ) (r : Loaded) {why : Why} {place : ℕ} → LoadSaid d rule s t r → r.answer ≡ Refused why place → (r.desk ≡ d) × (r.tally ≡ t)
+      (rule : ℕ) (s : List ℕ) (r : Loaded) {x : Refusal} → LoadSaid d rule s t r → r.answer ≡ Err x → (r.desk ≡ d) × (r.tally ≡ t)
   load_refused_stays rule s r (load.unruled none is) e = (ap (λ (x : Loaded). x.desk) is, ap (λ (x : Loaded). x.tally) is)
   load_refused_stays rule s r (load.ruled named num read) e = load_parsed_kept (design_of named s) r read.parsed e
 
@@ -119,10 +126,6 @@ same_ordered r r' e = record {
   tally = ap (λ (x : Ordered). x.tally) e;
 }
 
-pub standing_holding : {d : Desk} → Standing d → d.held ≡ true → Holding d
-standing_holding (empty e) h = absurd (let z : ◌≡◌ {A = ℕ} 0 1 = cc in omega arith)
-standing_holding (holding h) e = h
-
 module _ (d : Desk) (t : Tally) where
   order_judged_once : (b : Board) → WellFormed b → (took : ℕ) (r r' : Ordered) → OrderJudged b d t took r → OrderJudged b d t took r' → SameOrdered r r'
   order_judged_once b w took r r' j j' =
@@ -132,52 +135,49 @@ module _ (d : Desk) (t : Tally) where
         took = j.took_is ∙ sym j'.took_is;
         path = one.1;
         desk = one.2;
-        tally = j.tally ∙ ap (λ (a : Answer). tally_ordered a t) one.0 ∙ sym j'.tally;
+        tally = j.tally ∙ ap (λ (a : Answer Unit). tally_ordered a t) one.0 ∙ sym j'.tally;
       }
 
   -- the board as it would be is well formed where it is judged
-  pub judged_well : Standing d → (o : Order) → Orderly o → tried_of d t o ≡ Done → WellFormed (changed_of d.board o)
-  judged_well so o orderly e =
-      let p = tried_passed d t o e in
-      let w = (standing_holding so p.held).kept.formed in
-      changed_well d.board w o (tried_fits d.board w o.change p.place) orderly
+  pub judged_well : Standing d → (o : Order) → Orderly o → (h : Held) → tried_of d t o ≡ Ok h → WellFormed (changed_of h.board o)
+  judged_well so o orderly h e =
+      let p = tried_passed d t o h e in
+      let w = (standing_kept so p.held).formed in
+      changed_well h.board w o (tried_fits h.board w o p.place) orderly
 
   module _ (so : Standing d) (o : Order) (orderly : Orderly o) (took : ℕ) (r r' : Ordered) where
-    order_tried_once : (a : Answer) → tried_of d t o ≡ a → OrderTried a d t o took r → OrderTried a d t o took r' → SameOrdered r r'
-    order_tried_once (Refused why place) e is is' = same_ordered r r' (is ∙ sym is')
-    order_tried_once Done e j j' = order_judged_once (changed_of d.board o) (judged_well so o orderly e) took r r' j j'
+    order_tried_once : (a : Answer Held) → tried_of d t o ≡ a → OrderTried a d t o took r → OrderTried a d t o took r' → SameOrdered r r'
+    order_tried_once (Err x) e is is' = same_ordered r r' (is ∙ sym is')
+    order_tried_once (Ok h) e j j' = order_judged_once (changed_of h.board o) (judged_well so o orderly h e) took r r' j j'
 
   order_parsed_once :
       Standing d → (p : Parse Order) → ((o : Order) (took : ℕ) → p ≡ got o took → Orderly o) → (r r' : Ordered) → OrderParsed p d t r →
       OrderParsed p d t r' → SameOrdered r r'
-  order_parsed_once so (stop why place) orderly r r' is is' = same_ordered r r' (is ∙ sym is')
-  order_parsed_once so (got o took) orderly r r' j j' = order_tried_once so o (orderly o took refl) took r r' (tried_of d t o) refl j j'
+  order_parsed_once so (Err x) orderly r r' is is' = same_ordered r r' (is ∙ sym is')
+  order_parsed_once so (Ok x) orderly r r' j j' =
+      order_tried_once so x.value (orderly x.value x.next refl) x.next r r' (tried_of d t x.value) refl j j'
 
   pub order_once : Standing d → (s : List ℕ) (r r' : Ordered) → OrderSaid d s t r → OrderSaid d s t r' → SameOrdered r r'
   order_once so s r r' said said' = order_parsed_once so (order_of s) (order_orderly s) r r' said.parsed said'.parsed
 
   -- a refused order changes the tally at most, and that as it is counted
   refused_kept :
-      (r : Ordered) (took : ℕ) {w why : Why} {q place : ℕ} → r ≡ order_refused w q took [] d t → r.answer ≡ Refused why place →
-      (r.desk ≡ d) × (r.tally ≡ refused_tally why t)
-  refused_kept r took {w = w} {why = why} {q = q} {place = place} is e =
-      let told : Refused w q ≡ Refused why place = sym (ap (λ (x : Ordered). x.answer) is) ∙ e in
-      let same : w ≡ why = cc in
-      (ap (λ (x : Ordered). x.desk) is, ap (λ (x : Ordered). x.tally) is ∙ ap (λ (v : Why). refused_tally v t) same)
+      (r : Ordered) (took : ℕ) {x y : Refusal} → r ≡ order_refused x took [] d t → r.answer ≡ Err y → (r.desk ≡ d) × (r.tally ≡ refused_tally y.why t)
+  refused_kept r took {x} {y} is e =
+      let same : x ≡ y = same_err (sym (ap (λ (x : Ordered). x.answer) is) ∙ e) in
+      (ap (λ (x : Ordered). x.desk) is, ap (λ (x : Ordered). x.tally) is ∙ ap (λ (v : Refusal). refused_tally v.why t) same)
 
   order_tried_kept :
-      (a : Answer) (o : Order) (took : ℕ) (r : Ordered) {why : Why} {place : ℕ} → OrderTried a d t o took r → r.answer ≡ Refused why place →
-      (r.desk ≡ d) × (r.tally ≡ refused_tally why t)
-  order_tried_kept (Refused w q) o took r is e = refused_kept r took is e
-  order_tried_kept Done o took r {why} {place} j e = (j.judged.stays why place e, j.tally ∙ ap (λ (a : Answer). tally_ordered a t) e)
+      (a : Answer Held) (o : Order) (took : ℕ) (r : Ordered) {y : Refusal} → OrderTried a d t o took r → r.answer ≡ Err y →
+      (r.desk ≡ d) × (r.tally ≡ refused_tally y.why t)
+  order_tried_kept (Err x) o took r is e = refused_kept r took is e
+  order_tried_kept (Ok h) o took r {y} j e = (j.judged.stays y e, j.tally ∙ ap (λ (a : Answer Unit). tally_ordered a t) e)
 
   order_parsed_kept :
-      (p : Parse Order) (r : Ordered) {why : Why} {place : ℕ} → OrderParsed p d t r → r.answer ≡ Refused why place →
-      (r.desk ≡ d) × (r.tally ≡ refused_tally why t)
-  order_parsed_kept (stop w q) r is e = refused_kept r 0 is e
-  order_parsed_kept (got o took) r j e = order_tried_kept (tried_of d t o) o took r j e
+      (p : Parse Order) (r : Ordered) {y : Refusal} → OrderParsed p d t r → r.answer ≡ Err y → (r.desk ≡ d) × (r.tally ≡ refused_tally y.why t)
+  order_parsed_kept (Err x) r is e = refused_kept r 0 is e
+  order_parsed_kept (Ok x) r j e = order_tried_kept (tried_of d t x.value) x.value x.next r j e
 
   pub order_refused_stays :
-      (s : List ℕ) (r : Ordered) {why : Why} {place : ℕ} → OrderSaid d s t r → r.answer ≡ Refused why place →
-      (r.desk ≡ d) × (r.tally ≡ refused_tally why t)
+      (s : List ℕ) (r : Ordered) {y : Refusal} → OrderSaid d s t r → r.answer ≡ Err y → (r.desk ≡ d) × (r.tally ≡ refused_tally y.why t)
   order_refused_stays s r said e = order_parsed_kept (order_of s) r said.parsed e

@@ -1,11 +1,11 @@
 -- The words of demand 2: "A load is accepted, and holds the board that its file describes, exactly when no listed refusal applies."
 -- Assumes nothing.
 use Rattle.std.specs.Prelude.{◌≡◌, List, ℕ}
-use Rattle.refusal.specs.declared.Answer.TheVariants.{Done}
+use Rattle.std.specs.Prelude.{Ok}
 use Rattle.board.specs.declared.Rule.{Rule}
 use Rattle.board.specs.declared.Board.{Board}
 use Rattle.board.specs.Board.{rule_number}
-use Rattle.fields.specs.Parse.{got}
+use Rattle.groups.specs.Parse.{got}
 use Rattle.design.specs.Design.{design_of}
 use Rattle.desk.specs.declared.Loaded.{Loaded}
 use Rattle.desk.specs.Held.{Holding}
@@ -19,9 +19,9 @@ pub record Describes (named : Rule) (s : List ℕ) (b : Board) : Type 0 where
 
 -- the load is accepted and holds that board
 pub record Accepted (b : Board) (r : Loaded) : Type 0 where
-  pub done : r.answer ≡ Done
-  pub board : r.desk.board ≡ b
+  pub done : r.answer ≡ Ok tt
   pub holding : Holding r.desk
+  pub board : holding.held.board ≡ b
   pub tally : r.tally ≡ no_tally
 
 -- what an accepted load came from

@@ -1,14 +1,19 @@
 -- Two results that are the same but for the advice: a flow that the next solve may begin from, and on which no answer depends.
 -- Assumes nothing.
-use Rattle.std.specs.Prelude.{◌≡◌}
+use Rattle.std.specs.Prelude.{◌≡◌, Some, None}
+use Rattle.desk.specs.declared.Held.{Held}
 use Rattle.desk.specs.declared.Desk.{Desk}
 use Rattle.desk.specs.declared.Loaded.{Loaded}
 use Rattle.desk.specs.declared.Ordered.{Ordered}
 
-pub record SameDesk (d d' : Desk) : Type 0 where
-  pub held : d.held ≡ d'.held
-  pub board : d.board ≡ d'.board
-  pub budget : d.budget ≡ d'.budget
+pub record SameHeld (h h' : Held) : Type 0 where
+  pub board : h.board ≡ h'.board
+  pub budget : h.budget ≡ h'.budget
+
+-- both hold nothing, or both hold the same
+pub data SameDesk (d d' : Desk) : Type 0 where
+  empty : d.held ≡ None → d'.held ≡ None → SameDesk d d'
+  holding : {h h' : Held} → d.held ≡ Some h → d'.held ≡ Some h' → SameHeld h h' → SameDesk d d'
 
 pub record SameLoaded (r r' : Loaded) : Type 0 where
   pub answer : r.answer ≡ r'.answer

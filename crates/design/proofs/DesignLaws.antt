@@ -2,24 +2,27 @@
 -- rewritten byte for byte.
 -- Assumes nothing.
 use mathlib.Core.Path.{◌≡◌, refl, sym, ap, ◌∙◌}
-use mathlib.Core.Bool.{true, false}
+use mathlib.Core.Bool.{true}
 use mathlib.Core.Logic.{◌≢◌}
 use mathlib.Core.List.{List, ◌++◌}
 use Prim.Native.Nat.{ℕ, zero, suc, ◌+◌, ◌*◌, ◌-◌, ◌≤◌, ◌<◌}
 use native.Mathlib.Omega.{arith}
 use lib.Dec.{eqb}
 use lib.ListN.{length, get_or, length-append}
-use borrow.Author.Tests.{eqb-true, eqb-false, ltb-false, eq-eqb, ne_eqb, le-ltb}
+use borrow.Author.Tests.{eqb-true, eqb-false, ltb-false, ne_eqb, le-ltb}
+use Rattle.std.specs.Prelude.{Option, Some, None}
 use Rattle.base.specs.Pick.{pick}
-use Rattle.groups.specs.declared.Read.TheVariants.{Number}
 use Rattle.groups.specs.Number.{groups, number_at, encode}
 use Rattle.groups.proofs.RoundTrip.{Bytes}
 use Rattle.curve.specs.declared.Curve.{Curve}
 use Rattle.curve.specs.Curve.{Good}
-use Rattle.fields.specs.Parse.{got, and_then, number, field_at}
+use Rattle.groups.specs.Parse.{got}
+use Rattle.fields.specs.Parse.{and_then, field_at}
 use Rattle.fields.specs.CurveFile.{curve_bytes}
-use Rattle.fields.proofs.ParseLaws.{then_got, number_read, pick_passed, pick_not_stopped, got_same, field_got}
+use Rattle.fields.specs.LinkFile.{link_bytes}
+use Rattle.fields.proofs.ParseLaws.{then_got, pick_passed, pick_not_stopped, read_same, got_same, field_got}
 use Rattle.fields.proofs.Stands.{Stands, stands_first, stands_then, stands_join, stands_front, stands_whole, number_reads, number_stands, field_reads_back, field_stands, field_next}
+use Rattle.fields.proofs.Filling.{Filling}
 use Rattle.fields.proofs.WritingLaws.{row_size}
 use Rattle.fields.proofs.CurveFileLaws.{curve_good, curve_next, curve_reads_back, curve_writes_back, curve_size_le, size_to_1, size_to_2}
 use Rattle.board.specs.declared.Rule.{Rule}
@@ -29,21 +32,18 @@ use Rattle.board.specs.Board.{no_curve, plain_link, no_link, blank_curve, curve_
 use Rattle.board.specs.Tests.{blank_curves, blank_links, below_of}
 use Rattle.board.proofs.LinkLaws.{passed, link_same, below_one, below_order}
 use Rattle.board.proofs.UsableLaws.{under_well}
-use Rattle.design.specs.declared.Head.{Head}
-use Rattle.design.specs.Design.{version_at, part_from, parts_from, above, link_from, link_in, links_from, whole_at, board_of, linked_from, body_from, head_from, design_of, link_bytes, parts_bytes, links_bytes, linked_bytes, body_bytes, head_bytes, file_of}
+use Rattle.design.specs.Design.{version_at, part_from, parts_from, past, above, link_from, before_of, link_in, links_from, whole_at, board_of, linked_from, body_from, head_from, design_of, parts_bytes, links_bytes, linked_bytes, body_bytes, head_bytes, file_of}
 use Rattle.design.proofs.Rows.{RowRead, row_read, row_reads_back}
 
 -- ---- the version
-version_told : (s : List ℕ) (v n : ℕ) → version_at s ≡ got v n → (v ≡ 1) × (number_at s 0 ≡ Number 1 n)
+version_told : (s : List ℕ) (v n : ℕ) → version_at s ≡ got v n → (v ≡ 1) × (number_at s 0 ≡ got 1 n)
 unfolding version_at
 version_told s v n is =
-    let x = then_got (number (number_at s 0)) _ v n is in
-    let p = pick_passed _ _ _ _ v n x.rest in
-    let e = p.is in
+    let x = then_got (number_at s 0) _ v n is in
+    let p = pick_passed _ _ _ v n x.rest in
     let one : x.value ≡ 1 = eqb-true x.value 1 p.holds in
-    let value : x.value ≡ v = cc in
-    let place : x.place ≡ n = cc in
-    (sym value ∙ one, rw (one, place) at (number_read (number_at s 0) x.value x.place x.first))
+    let same = read_same x.value v x.place n p.is in
+    (sym same.0 ∙ one, rw (one, same.1) at x.first)
 
 version_reads_back : (s : List ℕ) (n : ℕ) → Stands s 0 (encode 1) n → version_at s ≡ got 1 n
 unfolding version_at and_then pick
@@ -70,25 +70,17 @@ parts_read_back s at n b w x =
     n w.curve_room w.blank_curves x
 
 -- ---- links
-above_later : (l : ℕ) (before link : Link) (j : ℕ) → l ≡ suc j → pick (eqb l 0) true (eqb (below_of before link) 1) ≡ true → below_of before link ≡ 1
-unfolding pick
-above_later l before link j same e =
-    let later : eqb l 0 ≡ false = ne_eqb l 0 (λ z. omega arith) in
-    eqb-true (below_of before link) 1 (rw later at e)
-
 -- a link that passed the test is no self-link, and stands above the one before
-above_told : (l : ℕ) (before link : Link) → above l before link ≡ true → (link.from ≢ link.to) × ((j : ℕ) → l ≡ suc j → below_of before link ≡ 1)
+above_told : (before : Option Link) (link : Link) → above before link ≡ true → (link.from ≢ link.to) × ((last : Link) → before ≡ Some last → below_of last link ≡ true)
 unfolding above
-above_told l before link e =
-    let t = passed (eqb link.from link.to) (pick (eqb l 0) true (eqb (below_of before link) 1)) e in
-    (eqb-false link.from link.to t.0, λ j same. above_later l before link j same t.1)
+above_told before link e =
+    let t = passed (eqb link.from link.to) (past before link) e in
+    (eqb-false link.from link.to t.0, λ last same. rw same at t.1)
 
-above_holds : (l : ℕ) (before link : Link) → link.from ≢ link.to → ((j : ℕ) → l ≡ suc j → below_of before link ≡ 1) → above l before link ≡ true
+above_holds : (before : Option Link) (link : Link) → link.from ≢ link.to → ((last : Link) → before ≡ Some last → below_of last link ≡ true) → above before link ≡ true
 unfolding above pick
-above_holds zero before link apart below = rw (ne_eqb link.from link.to apart)
-above_holds (suc l) before link apart below =
-    let later : eqb (suc l) 0 ≡ false = ne_eqb (suc l) 0 (λ z. omega arith) in
-    rw (ne_eqb link.from link.to apart, later, eq-eqb (below_of before link) 1 (below l refl))
+above_holds None link apart below = rw (ne_eqb link.from link.to apart)
+above_holds (Some last) link apart below = rw (ne_eqb link.from link.to apart) (below last refl)
 
 pub record Joins (parts : ℕ) (link : Link) : Type 0 where
   pub from_in : link.from < parts
@@ -96,18 +88,18 @@ pub record Joins (parts : ℕ) (link : Link) : Type 0 where
   pub apart : link.from ≢ link.to
   pub plain : delay_of link ≡ 0
 
-record LinkTold (s : List ℕ) (parts l : ℕ) (before : Link) (m : ℕ) (link : Link) (n : ℕ) : Type 0 where
+record LinkTold (s : List ℕ) (parts : ℕ) (before : Option Link) (m : ℕ) (link : Link) (n : ℕ) : Type 0 where
   joins : Joins parts link
-  after : (j : ℕ) → l ≡ suc j → below_of before link ≡ 1
+  after : (last : Link) → before ≡ Some last → below_of last link ≡ true
   stands : Bytes s → Stands s m (link_bytes link) n
   within : n ≤ length s
 
-told_link : (s : List ℕ) (parts l : ℕ) (before : Link) (m from m₁ to n : ℕ) → 1 ≤ parts → field_at s 0 (parts - 1) m ≡ got from m₁ → field_at s 0 (parts - 1) m₁ ≡ got to n → above l before (plain_link from to) ≡ true → LinkTold s parts l before m (plain_link from to) n
+told_link : (s : List ℕ) (parts : ℕ) (before : Option Link) (m from m₁ to n : ℕ) → 1 ≤ parts → field_at s 0 (parts - 1) m ≡ got from m₁ → field_at s 0 (parts - 1) m₁ ≡ got to n → above before (plain_link from to) ≡ true → LinkTold s parts before m (plain_link from to) n
 unfolding delay_of
-told_link s parts l before m from m₁ to n some is-from is-to e =
+told_link s parts before m from m₁ to n some is-from is-to e =
     let f = field_got s 0 (parts - 1) m from m₁ is-from in
     let t = field_got s 0 (parts - 1) m₁ to n is-to in
-    let a = above_told l before (plain_link from to) e in
+    let a = above_told before (plain_link from to) e in
     record {
       joins = record { from_in = omega (arith, f.to); to_in = omega (arith, t.to); apart = a.0; plain = refl };
       after = a.1;
@@ -115,14 +107,14 @@ told_link s parts l before m from m₁ to n some is-from is-to e =
       within = (field_next s 0 (parts - 1) m₁ to n is-to).1;
     }
 
-link_told : (s : List ℕ) (parts l : ℕ) (before : Link) (m : ℕ) (link : Link) (n : ℕ) → 1 ≤ parts → link_from s parts l before m ≡ got link n → LinkTold s parts l before m link n
+link_told : (s : List ℕ) (parts : ℕ) (before : Option Link) (m : ℕ) (link : Link) (n : ℕ) → 1 ≤ parts → link_from s parts before m ≡ got link n → LinkTold s parts before m link n
 unfolding link_from
-link_told s parts l before m link n some is =
+link_told s parts before m link n some is =
     let f = then_got _ _ link n is in
     let t = then_got _ _ link n f.rest in
-    let p = pick_passed _ _ _ _ link n t.rest in
-    got_same (LinkTold s parts l before m) (plain_link f.value t.value) link t.place n p.is
-    (told_link s parts l before m f.value f.place t.value t.place some f.first t.first p.holds)
+    let p = pick_passed _ _ _ link n t.rest in
+    got_same (LinkTold s parts before m) (plain_link f.value t.value) link t.place n p.is
+    (told_link s parts before m f.value f.place t.value t.place some f.first t.first p.holds)
 
 abbrev Below : Link → Link → Type 0
 Below a b = order a < order b
@@ -132,14 +124,13 @@ unfolding links_from blank_links
 links_told s parts links at link n some few most is =
     row_read s no_link no_link 256 at (Joins parts) Below link_bytes (link_in s parts)
     (λ k row m a i h before e.
-    let told = link_told s parts k (get_or row (k - 1) no_link) m a i some e in
+    let told = link_told s parts (before_of k row) m a i some e in
     record {
       one = told.joins;
       after = λ j same.
-          let back : k - 1 ≡ j = omega arith in
           let last = (before.each j (omega arith)).to_in in
           let here = told.joins.to_in in
-          below_order (get_or row j no_link) a (omega arith) (omega arith) (rw back at (told.after j same));
+          below_order (get_or row j no_link) a (omega arith) (omega arith) (told.after (get_or row j no_link) (rw same));
       stands = told.stands;
       within = told.within;
     })
@@ -150,9 +141,9 @@ ends_below : (before link : Link) → below_of before (plain_link link.from link
 unfolding below_of
 ends_below before link = refl
 
-link_reads_back : (s : List ℕ) (parts l : ℕ) (before : Link) (m : ℕ) (link : Link) (n : ℕ) → parts ≤ 64 → Joins parts link → ((j : ℕ) → l ≡ suc j → below_of before link ≡ 1) → Stands s m (link_bytes link) n → link_from s parts l before m ≡ got link n
+link_reads_back : (s : List ℕ) (parts : ℕ) (before : Option Link) (m : ℕ) (link : Link) (n : ℕ) → parts ≤ 64 → Joins parts link → ((last : Link) → before ≡ Some last → below_of last link ≡ true) → Stands s m (link_bytes link) n → link_from s parts before m ≡ got link n
 unfolding link_from delay_of and_then pick
-link_reads_back s parts l before m link n few joins below x =
+link_reads_back s parts before m link n few joins below x =
     let f = encode link.from in
     let t = encode link.to in
     let from_in = joins.from_in in
@@ -160,23 +151,30 @@ link_reads_back s parts l before m link n few joins below x =
     rw (
       field_reads_back 0 (parts - 1) link.from (omega arith) (omega arith) (omega arith) (stands_first f t x),
       field_reads_back 0 (parts - 1) link.to (omega arith) (omega arith) (omega arith) (stands_then f t x),
-      above_holds l before (plain_link link.from link.to) joins.apart (λ j same. ends_below before link ∙ below j same),
+      above_holds before (plain_link link.from link.to) joins.apart (λ last same. ends_below last link ∙ below last same),
     ) (ap (λ (x : Link). got x n) (link_same (plain_link link.from link.to) link refl refl (sym joins.plain)))
+
+-- the link before place k of a board's row stands below the link there
+below_written :
+    (b : Board) (w : WellFormed b) (k : ℕ) (row : List Link) → k < b.links → Filling no_link no_link 256 k b.link row →
+    (last : Link) → before_of k row ≡ Some last → below_of last (link_at b k) ≡ true
+below_written b w zero row h filling last same = let z : ◌≡◌ {A = ℕ} 0 1 = cc in absurd (omega arith)
+below_written b w (suc j) row h filling last same =
+    let is : get_or row j no_link ≡ last = cc in
+    let from = w.to_in j (omega arith) in
+    let here = w.to_in (suc j) h in
+    let few = w.parts_to in
+    rw (← is, filling.front j (omega arith))
+    (below_one (link_at b j) (link_at b (suc j)) (omega arith) (omega arith) (w.ascends j h))
 
 links_read_back : (s : List ℕ) (at n : ℕ) (b : Board) → WellFormed b → Stands s at (links_bytes b b.links) n → links_from s b.parts b.links at ≡ got b.link n
 unfolding links_from blank_links links_bytes
 links_read_back s at n b w x =
     row_reads_back s no_link no_link 256 at b.link link_bytes (link_in s b.parts) b.links w.links_to
     (λ k row m l h filling y.
-    link_reads_back s b.parts k (get_or row (k - 1) no_link) m (link_at b k) l w.parts_to
+    link_reads_back s b.parts (before_of k row) m (link_at b k) l w.parts_to
     (record { from_in = w.from_in k h; to_in = w.to_in k h; apart = w.apart k h; plain = w.plain k h })
-    (λ j same.
-    let back : k - 1 ≡ j = omega arith in
-    let last = w.to_in j (omega arith) in
-    let here = w.to_in k h in
-    let few = w.parts_to in
-    let up : order (link_at b j) < order (link_at b k) = rw same (w.ascends j (omega arith)) in
-    rw (back, filling.front j (omega arith)) (below_one (link_at b j) (link_at b k) (omega arith) (omega arith) up))
+    (below_written b w k row h filling)
     y)
     n w.link_room w.blank_links x
 
@@ -187,7 +185,7 @@ record DesignTold (rule : Rule) (s : List ℕ) (b : Board) (n : ℕ) : Type 0 wh
   at₂ : ℕ
   at₃ : ℕ
   at₄ : ℕ
-  version : number_at s 0 ≡ Number 1 at₀
+  version : number_at s 0 ≡ got 1 at₀
   ruled : b.rule ≡ rule
   deadline : field_at s 1 4095 at₀ ≡ got b.deadline.0 at₁
   parts : field_at s 1 64 at₁ ≡ got b.parts at₂
@@ -205,10 +203,10 @@ design_told rule s b n is =
     let c = then_got _ _ b n p.rest in
     let l = then_got _ _ b n c.rest in
     let r = then_got _ _ b n l.rest in
-    let w = pick_not_stopped _ _ _ _ b n r.rest in
+    let w = pick_not_stopped _ _ _ b n r.rest in
     let parts = field_got s 1 64 d.place p.value p.place p.first in
     let links = field_got s 0 256 c.place l.value l.place l.first in
-    got_same (DesignTold rule s) (board_of (record { rule = rule; deadline = d.value; parts = p.value }) c.value l.value r.value) b r.place n w.1
+    got_same (DesignTold rule s) (board_of rule d.value p.value c.value l.value r.value) b r.place n w.1
     (record {
       at₀ = v.place;
       at₁ = d.place;
@@ -277,11 +275,8 @@ pub design_rule : (rule : Rule) (s : List ℕ) (b : Board) (n : ℕ) → design_
 design_rule rule s b n is = (design_told rule s b n is).ruled
 
 -- ---- a well-formed board written is read back, with nothing left over
-abbrev head_of : Board → Head
-head_of b = record { rule = b.rule; deadline = b.deadline.0; parts = b.parts }
-
 module _ (b : Board) (w : WellFormed b) where
-  linked_read_back : (s : List ℕ) (at n : ℕ) → length s ≤ n → Stands s at (encode b.links ++ links_bytes b b.links) n → linked_from s (head_of b) b.curve at ≡ got b n
+  linked_read_back : (s : List ℕ) (at n : ℕ) → length s ≤ n → Stands s at (encode b.links ++ links_bytes b b.links) n → linked_from s b.rule b.deadline.0 b.parts b.curve at ≡ got b n
   unfolding linked_from whole_at and_then pick
   linked_read_back s at n ended x =
       let l = encode b.links in
@@ -292,7 +287,7 @@ module _ (b : Board) (w : WellFormed b) where
         le-ltb n (length s) ended,
       )
 
-  body_read_back : (s : List ℕ) (at n : ℕ) → length s ≤ n → Stands s at (parts_bytes b b.parts ++ (encode b.links ++ links_bytes b b.links)) n → body_from s (head_of b) at ≡ got b n
+  body_read_back : (s : List ℕ) (at n : ℕ) → length s ≤ n → Stands s at (parts_bytes b b.parts ++ (encode b.links ++ links_bytes b b.links)) n → body_from s b.rule b.deadline.0 b.parts at ≡ got b n
   unfolding body_from and_then
   body_read_back s at n ended x =
       let c = parts_bytes b b.parts in

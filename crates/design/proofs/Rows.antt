@@ -10,10 +10,12 @@ use native.Mathlib.Nat.{add-zero}
 use lib.ListN.{length, get_or, set, replicate, length-set, length-replicate, get_or-replicate}
 use lib.Seq.{get_or-set_same, get_or-set_other}
 use Rattle.base.proofs.Cases.{lt_or_le}
-use Rattle.refusal.specs.declared.Why.{Why}
+use Rattle.std.specs.Prelude.{Err}
+use Rattle.refusal.specs.declared.Refusal.{Refusal}
 use Rattle.theory.proofs.SumLaws.{below_suc}
 use Rattle.groups.proofs.RoundTrip.{Bytes}
-use Rattle.fields.specs.Parse.{Parse, got, stop, and_then, repeat}
+use Rattle.groups.specs.Parse.{Parse, got}
+use Rattle.fields.specs.Parse.{and_then, repeat}
 use Rattle.fields.specs.Writing.{in_row}
 use Rattle.fields.proofs.ParseLaws.{then_got, got_same, repeat_on, repeat_fault, repeat_keeps}
 use Rattle.fields.proofs.Stands.{Stands, stands_none, stands_first, stands_then, stands_join}
@@ -26,16 +28,19 @@ module _ {A : Type 0} (read : ℕ → List A → ℕ → Parse A) (i : ℕ) (row
   unfolding in_place and_then
   place_got a n e = rw e
 
-  place_stop : (why : Why) (place : ℕ) → read i row at ≡ stop why place → in_place read i row at ≡ stop why place
+  place_stop : (e : Refusal) → read i row at ≡ Err e → in_place read i row at ≡ Err e
   unfolding in_place and_then
-  place_stop why place e = rw e
+  place_stop e stops = rw stops
 
 module _ {A : Type 0} (read : ℕ → List A → ℕ → Parse A) (start : List A) (at i : ℕ) (row : List A) (next : ℕ) (so_far : repeat (in_place read) start at i ≡ got row next) where
   pub row_on : (a : A) (n : ℕ) → read i row next ≡ got a n → repeat (in_place read) start at (i + 1) ≡ got (set row i a) n
   row_on a n e = repeat_on (in_place read) start at i row next so_far (set row i a) n (place_got read i row next a n e)
 
-  pub row_fault : (why : Why) (place n : ℕ) → read i row next ≡ stop why place → i < n → repeat (in_place read) start at n ≡ stop why place
-  row_fault why place n e l = repeat_fault (in_place read) start at i n row next why place so_far (place_stop read i row next why place e) l
+  pub row_fault : (e : Refusal) (n : ℕ) → read i row next ≡ Err e → i < n → repeat (in_place read) start at n ≡ Err e
+  row_fault e n stops l = repeat_fault (in_place read) start at i n row next e so_far (place_stop read i row next e stops) l
+
+  pub row_ended : (n : ℕ) → i ≤ n → n ≤ i → repeat (in_place read) start at n ≡ got row next
+  row_ended n l h = let same : n ≡ i = omega arith in rw same so_far
 
 row_same : (f g : ℕ → List ℕ) (k : ℕ) → ((i : ℕ) → i < k → f i ≡ g i) → in_row f k ≡ in_row g k
 unfolding in_row

@@ -1,2 +1,1 @@
 pub mod Design
-pub mod Answers

@@ -2,310 +2,128 @@
 #![tactic(auto)]
 
 ghost use Rattle.std.specs.Prelude.{◌≡◌, ◌≤◌, ◌<◌, ◌+◌, length};
-ghost use Rattle.fields.specs.Parse.{number, stop};
 ghost use Rattle.board.specs.Tests.{blank_curves, blank_links};
-ghost use Rattle.design.specs.Design.{version_at, parts_from, above, link_from, links_from, whole_at, linked_from, body_from, head_from, design_of};
-ghost use Rattle.design.specs.Answers.{parts_read, parts_stopped, link_read, links_read, links_stopped, stopped, design_read};
+ghost use Rattle.design.specs.Design.{version_at, parts_from, above, link_from, links_from, design_of, design_read};
 
 use board::{Board, Link, Rule};
 use curve::{Curve, Ticks};
 use groups::Read;
 use refusal::{Answer, Why};
 
-// The board that a file describes, or the first fault; at a fault no board.
-#[derive(Clone, Copy)]
-pub struct DesignRead {
-    pub answer: Answer,
-    pub board: Board,
-}
-
-// What a file says before its parts, and the rule that it is read under.
-#[derive(Clone, Copy)]
-struct Head {
-    rule: Rule,
-    deadline: u32,
-    parts: usize,
-}
-
-#[derive(Clone, Copy)]
-struct PartsRead {
-    answer: Answer,
-    next: usize,
-    curve: [Curve; 64],
-}
-
-#[derive(Clone, Copy)]
-struct LinkRead {
-    answer: Answer,
-    next: usize,
-    link: Link,
-}
-
-#[derive(Clone, Copy)]
-struct LinksRead {
-    answer: Answer,
-    next: usize,
-    link: [Link; 256],
-}
-
 // The version, which must be 1.
-fn read_version(s: &[u8]) -> Read
-    ensures { number result ≡ version_at s.now }
+#[tactic(auto, using(base::proofs::Tests::tests), unfolding(crate::specs::Design::version_at, fields::specs::Parse::and_then, base::specs::Pick::pick))]
+fn read_version(s: &[u8]) -> Answer<Read<u32>>
+    ensures { result ≡ version_at s.now }
 {
-    match groups::read_number(s, 0) {
-        Read::Refused { why, place } => Read::Refused { why, place },
-        Read::Number { value, next } => {
-            if value == 1 {
-                return Read::Number { value, next };
-            }
-            Read::Refused {
-                why: Why::WrongVersion,
-                place: 0,
-            }
-        }
+    let version = groups::read_number(s, 0)?;
+    if version.value != 1 {
+        return Err(Why::WrongVersion.at(0));
     }
+    Ok(version)
 }
 
+#[tactic(auto, unfolding(board::specs::Tests::empty_of))]
 fn no_curves() -> [Curve; 64]
     ensures { result ≡ blank_curves }
 {
-    let none = board::empty(Ticks(0), 0);
-    none.curve
+    board::empty(Ticks(0), 0).curve
 }
 
+#[tactic(auto, unfolding(board::specs::Tests::empty_of))]
 fn no_links() -> [Link; 256]
     ensures { result ≡ blank_links }
 {
-    let none = board::empty(Ticks(0), 0);
-    none.link
-}
-
-fn parts_stopped(answer: Answer) -> PartsRead
-    ensures { result ≡ parts_stopped answer }
-{
-    let curve = no_curves();
-    PartsRead {
-        answer,
-        next: 0,
-        curve,
-    }
+    board::empty(Ticks(0), 0).link
 }
 
 // All parts, a curve each.
-fn read_parts(s: &[u8], parts: usize, at: usize) -> PartsRead
+fn read_parts(s: &[u8], parts: usize, at: usize) -> Answer<Read<[Curve; 64]>>
     requires { parts ≤ 64 }
-    ensures { result ≡ parts_read (parts_from s.now parts at) }
+    ensures { result ≡ parts_from s.now parts at }
 {
     let mut curve = no_curves();
     let mut next = at;
-    let mut p: usize = 0;
-    while p < parts {
-        let r = fields::read_curve(s, next);
-        let a = r.answer;
-        let Answer::Done = a else {
-            return parts_stopped(a);
-        };
-        let c = r.curve;
-        curve[p] = c;
-        next = r.next;
-        p = p + 1;
+    for p in 0..parts {
+        let read = fields::read_curve(s, next)?;
+        curve[p] = read.value;
+        next = read.next;
     }
-    PartsRead {
-        answer: Answer::Done,
-        next,
-        curve,
-    }
+    Ok(Read { value: curve, next })
 }
 
-// Whether link l leads from one part to another and stands above the link before it.
-fn is_above(l: usize, before: Link, link: Link) -> bool
-    ensures { result ≡ above l before link }
+// Whether a link leads from one part to another and stands above the link before it.
+#[tactic(auto, using(base::proofs::Tests::tests), unfolding(crate::specs::Design::above, base::specs::Pick::pick))]
+fn is_above(before: Option<Link>, link: Link) -> bool
+    ensures { result ≡ above before link }
 {
     if link.from == link.to {
         return false;
     }
-    if l == 0 {
-        return true;
-    }
-    board::below(before, link) == 1
-}
-
-fn link_refused(why: Why, place: usize) -> LinkRead
-    ensures { result ≡ link_read (stop why place) }
-{
-    let link = board::plain_link(0, 0);
-    LinkRead {
-        answer: Answer::Refused { why, place },
-        next: 0,
-        link,
+    match before {
+        None => true,
+        Some(before) => board::below(before, link),
     }
 }
 
-// Link l, after the link before it.
-fn read_link(s: &[u8], parts: usize, l: usize, before: Link, at: usize) -> LinkRead
+// A link, after the link before it.
+#[tactic(auto, unfolding(crate::specs::Design::link_from, fields::specs::Parse::and_then, base::specs::Pick::pick))]
+fn read_link(s: &[u8], parts: usize, before: Option<Link>, at: usize) -> Answer<Read<Link>>
     requires { (1 ≤ parts) × (parts ≤ 64) }
-    ensures { result ≡ link_read (link_from s.now parts l before at) }
+    ensures { result ≡ link_from s.now parts before at }
 {
     let last = (parts - 1) as u32;
-    match fields::field(s, at, 0, last) {
-        Read::Refused { why, place } => link_refused(why, place),
-        Read::Number {
-            value: from,
-            next: to_at,
-        } => match fields::field(s, to_at, 0, last) {
-            Read::Refused { why, place } => link_refused(why, place),
-            Read::Number { value: to, next } => {
-                let link = board::plain_link(from as usize, to as usize);
-                if !is_above(l, before, link) {
-                    return link_refused(Why::LinkNotAbove, at);
-                }
-                LinkRead {
-                    answer: Answer::Done,
-                    next,
-                    link,
-                }
-            }
-        },
+    let from = fields::field(s, at, 0, last)?;
+    let to = fields::field(s, from.next, 0, last)?;
+    let link = board::plain_link(from.value as usize, to.value as usize);
+    if !is_above(before, link) {
+        return Err(Why::LinkNotAbove.at(at));
     }
-}
-
-fn links_stopped(answer: Answer) -> LinksRead
-    ensures { result ≡ links_stopped answer }
-{
-    let link = no_links();
-    LinksRead {
-        answer,
-        next: 0,
-        link,
-    }
+    Ok(Read {
+        value: link,
+        next: to.next,
+    })
 }
 
 // All links.
-fn read_links(s: &[u8], parts: usize, links: usize, at: usize) -> LinksRead
+// Kept: (d) the loop is `read_parts`' and `fields::each_run`'s; shared, it takes a closure and a ghost function for `read_link(s, parts, before, next)?`.
+fn read_links(s: &[u8], parts: usize, links: usize, at: usize) -> Answer<Read<[Link; 256]>>
     requires { (1 ≤ parts) × (parts ≤ 64) × (links ≤ 256) }
-    ensures { result ≡ links_read (links_from s.now parts links at) }
+    ensures { result ≡ links_from s.now parts links at }
 {
     let mut link = no_links();
-    let mut before = board::plain_link(0, 0);
+    let mut before = None;
     let mut next = at;
-    let mut l: usize = 0;
-    while l < links {
-        let r = read_link(s, parts, l, before, next);
-        let a = r.answer;
-        let Answer::Done = a else {
-            return links_stopped(a);
-        };
-        before = r.link;
-        link[l] = before;
-        next = r.next;
-        l = l + 1;
+    for l in 0..links {
+        let read = read_link(s, parts, before, next)?;
+        before = Some(read.value);
+        link[l] = read.value;
+        next = read.next;
     }
-    LinksRead {
-        answer: Answer::Done,
-        next,
-        link,
-    }
+    Ok(Read { value: link, next })
 }
 
-fn stop(answer: Answer) -> DesignRead
-    ensures { result ≡ stopped answer }
-{
-    DesignRead {
-        answer,
-        board: board::empty(Ticks(0), 0),
-    }
-}
-
-// Nothing may follow the last link.
-fn whole(s: &[u8], b: Board, at: usize) -> DesignRead
-    ensures { result ≡ design_read (whole_at s.now b at) }
-{
-    if at < s.len() {
-        return stop(Answer::Refused {
-            why: Why::BytesAfter,
-            place: at,
-        });
-    }
-    DesignRead {
-        answer: Answer::Done,
-        board: b,
-    }
-}
-
-// Link count, links and the end of the file.
-fn read_linked(s: &[u8], head: Head, curve: [Curve; 64], at: usize) -> DesignRead
-    requires { (1 ≤ head.parts) × (head.parts ≤ 64) }
-    ensures { result ≡ design_read (linked_from s.now head curve at) }
-{
-    match fields::field(s, at, 0, 256) {
-        Read::Refused { why, place } => stop(Answer::Refused { why, place }),
-        Read::Number { value: links, next } => {
-            let parts = head.parts;
-            let r = read_links(s, parts, links as usize, next);
-            let a = r.answer;
-            let Answer::Done = a else {
-                return stop(a);
-            };
-            let link = r.link;
-            let rule = head.rule;
-            let b = Board {
-                rule,
-                deadline: Ticks(head.deadline),
-                parts,
-                curve,
-                links: links as usize,
-                link,
-            };
-            whole(s, b, r.next)
-        }
-    }
-}
-
-// All that follows the part count.
-fn read_body(s: &[u8], head: Head, at: usize) -> DesignRead
-    requires { (1 ≤ head.parts) × (head.parts ≤ 64) }
-    ensures { result ≡ design_read (body_from s.now head at) }
-{
-    let parts = head.parts;
-    let r = read_parts(s, parts, at);
-    let a = r.answer;
-    let Answer::Done = a else {
-        return stop(a);
-    };
-    let curve = r.curve;
-    read_linked(s, head, curve, r.next)
-}
-
-// All that follows the version.
-fn read_head(s: &[u8], rule: Rule, at: usize) -> DesignRead
-    ensures { result ≡ design_read (head_from s.now rule at) }
-{
-    match fields::field(s, at, 1, 4095) {
-        Read::Refused { why, place } => stop(Answer::Refused { why, place }),
-        Read::Number {
-            value: deadline,
-            next: parts_at,
-        } => match fields::field(s, parts_at, 1, 64) {
-            Read::Refused { why, place } => stop(Answer::Refused { why, place }),
-            Read::Number { value: parts, next } => {
-                let parts = parts as usize;
-                let head = Head {
-                    rule,
-                    deadline,
-                    parts,
-                };
-                read_body(s, head, next)
-            }
-        },
-    }
-}
-
-// The board that a file describes under a rule.
-pub fn read_design(s: &[u8], rule: Rule) -> DesignRead
+// The board that a file describes under a rule, or the first fault. Nothing may follow the last link.
+#[tactic(auto, using(base::proofs::Tests::tests), unfolding(crate::specs::Design::design_of, crate::specs::Design::head_from, crate::specs::Design::body_from, crate::specs::Design::linked_from, crate::specs::Design::whole_at, fields::specs::Parse::and_then, base::specs::Pick::pick))]
+pub fn read_design(s: &[u8], rule: Rule) -> Answer<Board>
     ensures { result ≡ design_read (design_of rule s.now) }
 {
-    match read_version(s) {
-        Read::Refused { why, place } => stop(Answer::Refused { why, place }),
-        Read::Number { value: _, next } => read_head(s, rule, next),
+    let version = read_version(s)?;
+    let deadline = fields::field(s, version.next, 1, 4095)?;
+    let parts = fields::field(s, deadline.next, 1, 64)?;
+    let curves = read_parts(s, parts.value as usize, parts.next)?;
+    let count = fields::field(s, curves.next, 0, 256)?;
+    let links = read_links(s, parts.value as usize, count.value as usize, count.next)?;
+    if links.next < s.len() {
+        return Err(Why::BytesAfter.at(links.next));
     }
+    let curve = curves.value;
+    let link = links.value;
+    Ok(Board {
+        rule,
+        deadline: Ticks(deadline.value),
+        parts: parts.value as usize,
+        curve,
+        links: count.value as usize,
+        link,
+    })
 }

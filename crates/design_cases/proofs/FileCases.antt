@@ -11,11 +11,13 @@ use borrow.Author.Tests.{ltb-true}
 use Rattle.base.specs.Pick.{pick}
 use Rattle.refusal.specs.declared.Why.TheVariants.{CutShort, NotShortest, WrongVersion, OutOfRange, SavingNotBelow, PowerBelowSavings, LinkNotAbove, BytesAfter}
 use Rattle.theory.specs.Sum.{sum}
+use Rattle.refusal.specs.Refusal.{refused}
 use Rattle.groups.specs.Number.{shortest_end, groups_from, number_at}
 use Rattle.groups.proofs.RoundTrip.{Bytes}
 use Rattle.curve.specs.Curve.{length_at, saving_at, savings_of}
 use Rattle.board.proofs.LinkLaws.{both_hold}
-use Rattle.fields.specs.Parse.{got, stop, and_then, repeat, ranged_at, field_at}
+use Rattle.groups.specs.Parse.{got}
+use Rattle.fields.specs.Parse.{and_then, repeat, ranged_at, field_at}
 use Rattle.fields.specs.CurveFile.{bare, falls, run_from, runs_from, curve_from}
 use Rattle.board.specs.declared.Rule.TheVariants.{A}
 use Rattle.board.specs.Board.{blank_curve}
@@ -65,31 +67,31 @@ D_read_back = written_read D (design_well_formed A file_D D 23 D_read)
 -- ---- a fault each, with its place
 pub record Faults : Type 0 where
   -- 1: the input ends after three numbers; place: its length
-  pub cut_short : design_of A (1 ∷ 10 ∷ 4 ∷ []) ≡ stop CutShort 3
+  pub cut_short : design_of A (1 ∷ 10 ∷ 4 ∷ []) ≡ refused CutShort 3
   -- 2: `80 00` for a deadline; place: its first byte
-  pub not_shortest : design_of A (1 ∷ 128 ∷ 0 ∷ []) ≡ stop NotShortest 1
+  pub not_shortest : design_of A (1 ∷ 128 ∷ 0 ∷ []) ≡ refused NotShortest 1
   -- 02, Req 02: "1 is for under four groups read, 2 for a fourth that promises a fifth"
-  pub three_groups_cut : design_of A (1 ∷ 128 ∷ 128 ∷ 128 ∷ []) ≡ stop CutShort 4
-  pub fifth_promised : design_of A (1 ∷ 128 ∷ 128 ∷ 128 ∷ 128 ∷ []) ≡ stop NotShortest 1
+  pub three_groups_cut : design_of A (1 ∷ 128 ∷ 128 ∷ 128 ∷ []) ≡ refused CutShort 4
+  pub fifth_promised : design_of A (1 ∷ 128 ∷ 128 ∷ 128 ∷ 128 ∷ []) ≡ refused NotShortest 1
   -- 3
-  pub wrong_version : design_of A (2 ∷ 10 ∷ []) ≡ stop WrongVersion 0
+  pub wrong_version : design_of A (2 ∷ 10 ∷ []) ≡ refused WrongVersion 0
   -- 4: no parts; a link to a part that is not there
-  pub no_parts : design_of A (1 ∷ 10 ∷ 0 ∷ []) ≡ stop OutOfRange 2
-  pub no_such_end : design_of A (1 ∷ 10 ∷ 1 ∷ 1 ∷ 0 ∷ 0 ∷ 1 ∷ 0 ∷ 1 ∷ []) ≡ stop OutOfRange 8
+  pub no_parts : design_of A (1 ∷ 10 ∷ 0 ∷ []) ≡ refused OutOfRange 2
+  pub no_such_end : design_of A (1 ∷ 10 ∷ 1 ∷ 1 ∷ 0 ∷ 0 ∷ 1 ∷ 0 ∷ 1 ∷ []) ≡ refused OutOfRange 8
   -- "Every other field keeps its own range": 2,097,152 for a deadline; 20,000,001 for a power
-  pub four_groups_of_ticks : design_of A (1 ∷ 128 ∷ 128 ∷ 128 ∷ 1 ∷ []) ≡ stop OutOfRange 1
-  pub power_past_its_range : design_of A (1 ∷ 10 ∷ 1 ∷ 1 ∷ 129 ∷ 218 ∷ 196 ∷ 9 ∷ []) ≡ stop OutOfRange 4
+  pub four_groups_of_ticks : design_of A (1 ∷ 128 ∷ 128 ∷ 128 ∷ 1 ∷ []) ≡ refused OutOfRange 1
+  pub power_past_its_range : design_of A (1 ∷ 10 ∷ 1 ∷ 1 ∷ 129 ∷ 218 ∷ 196 ∷ 9 ∷ []) ≡ refused OutOfRange 4
   -- 5: "Two runs at equal saving give 5"; place: the second saving
-  pub equal_savings : design_of A (1 ∷ 10 ∷ 1 ∷ 2 ∷ 100 ∷ 2 ∷ 2 ∷ 20 ∷ 1 ∷ 20 ∷ 0 ∷ []) ≡ stop SavingNotBelow 9
+  pub equal_savings : design_of A (1 ∷ 10 ∷ 1 ∷ 2 ∷ 100 ∷ 2 ∷ 2 ∷ 20 ∷ 1 ∷ 20 ∷ 0 ∷ []) ≡ refused SavingNotBelow 9
   -- 6: two ticks at 20 and a power of 39; place: the power
-  pub power_below : design_of A (1 ∷ 10 ∷ 1 ∷ 2 ∷ 39 ∷ 1 ∷ 2 ∷ 20 ∷ 0 ∷ []) ≡ stop PowerBelowSavings 4
+  pub power_below : design_of A (1 ∷ 10 ∷ 1 ∷ 2 ∷ 39 ∷ 1 ∷ 2 ∷ 20 ∷ 0 ∷ []) ≡ refused PowerBelowSavings 4
   -- 7: a self-link; a link not above the one before; place: its from
-  pub self_link : design_of A (1 ∷ 10 ∷ 1 ∷ 1 ∷ 0 ∷ 0 ∷ 1 ∷ 0 ∷ 0 ∷ []) ≡ stop LinkNotAbove 7
-  pub link_twice : design_of A (1 ∷ 10 ∷ 2 ∷ 1 ∷ 0 ∷ 0 ∷ 1 ∷ 0 ∷ 0 ∷ 2 ∷ 0 ∷ 1 ∷ 0 ∷ 1 ∷ []) ≡ stop LinkNotAbove 12
+  pub self_link : design_of A (1 ∷ 10 ∷ 1 ∷ 1 ∷ 0 ∷ 0 ∷ 1 ∷ 0 ∷ 0 ∷ []) ≡ refused LinkNotAbove 7
+  pub link_twice : design_of A (1 ∷ 10 ∷ 2 ∷ 1 ∷ 0 ∷ 0 ∷ 1 ∷ 0 ∷ 0 ∷ 2 ∷ 0 ∷ 1 ∷ 0 ∷ 1 ∷ []) ≡ refused LinkNotAbove 12
   -- a fault in `to` wins over a `from` that is too low
-  pub to_first : design_of A (1 ∷ 10 ∷ 2 ∷ 1 ∷ 0 ∷ 0 ∷ 1 ∷ 0 ∷ 0 ∷ 2 ∷ 1 ∷ 0 ∷ 0 ∷ 2 ∷ []) ≡ stop OutOfRange 13
+  pub to_first : design_of A (1 ∷ 10 ∷ 2 ∷ 1 ∷ 0 ∷ 0 ∷ 1 ∷ 0 ∷ 0 ∷ 2 ∷ 1 ∷ 0 ∷ 0 ∷ 2 ∷ []) ≡ refused OutOfRange 13
   -- 8
-  pub bytes_after : design_of A (1 ∷ 10 ∷ 1 ∷ 1 ∷ 0 ∷ 0 ∷ 0 ∷ 7 ∷ []) ≡ stop BytesAfter 7
+  pub bytes_after : design_of A (1 ∷ 10 ∷ 1 ∷ 1 ∷ 0 ∷ 0 ∷ 0 ∷ 7 ∷ []) ≡ refused BytesAfter 7
 
 pub faults : Faults
 unfolding design_of version_at head_from body_from linked_from parts_from part_from links_from link_from whole_at in_place above below_of blank_curves blank_links blank_curve curve_from runs_from run_from bare falls savings_of length_at saving_at sum repeat and_then field_at ranged_at number_at groups_from shortest_end pick

@@ -19,7 +19,8 @@ use Rattle.board.specs.declared.Rule.TheVariants.{A}
 use Rattle.board.specs.declared.Link.{Link}
 use Rattle.board.specs.declared.Board.{Board}
 use Rattle.board.specs.Board.{no_curve, no_link, curve_at, link_at, delay_of, WellFormed}
-use Rattle.design.specs.Design.{link_bytes, parts_bytes, links_bytes, linked_bytes, body_bytes, head_bytes, file_of}
+use Rattle.fields.specs.LinkFile.{link_bytes}
+use Rattle.design.specs.Design.{parts_bytes, links_bytes, linked_bytes, body_bytes, head_bytes, file_of}
 use Rattle.design_cases.specs.Boards.{run, link}
 
 -- bytes in a row, each of one size

@@ -1,46 +1,50 @@
 -- The ways of the file's writer.
 -- Assumes nothing.
 use mathlib.Core.Path.{◌≡◌, refl, sym, ap, ◌∙◌}
-use mathlib.Core.Bool.{Bool, true, false, not}
+use mathlib.Core.Bool.{Bool, true, false}
 use mathlib.Core.List.{List, ◌++◌}
 use Prim.Native.Nat.{ℕ, ◌+◌, ◌≤◌, ◌<◌}
 use native.Mathlib.Omega.{arith}
-use lib.ListN.{length, drop, length-append}
+use lib.ListN.{length, take, drop, length-append}
 use lib.Seq.{sets-eq}
-use borrow.Author.Tests.{not-true, not-false, lt-ltb, le-ltb}
+use borrow.Author.Tests.{lt-ltb, le-ltb}
 use Rattle.base.specs.Pick.{pick}
-use Rattle.base.proofs.Cases.{finished}
-use Rattle.refusal.specs.declared.Why.{Why}
+use Rattle.std.specs.List.{flat_map}
+use Rattle.std.specs.Prelude.{Some, Ok, Err}
+use Rattle.refusal.specs.declared.Refusal.{Refusal}
 use Rattle.refusal.specs.declared.Why.TheVariants.{NoBoard, BufferShort}
-use Rattle.refusal.specs.declared.Answer.{Answer}
-use Rattle.refusal.specs.declared.Answer.TheVariants.{Done, Refused}
+use Rattle.refusal.specs.Refusal.{Answer, refusal_at}
 use Rattle.groups.specs.Number.{encode}
-use Rattle.fields.specs.Writing.{WroteIfRoom, WroteOrNothing, in_row}
-use Rattle.fields.proofs.WritingLaws.{then_wrote, both_wrote}
-use Rattle.board.specs.declared.Link.{Link}
+use Rattle.fields.specs.CurveFile.{curve_bytes}
+use Rattle.fields.specs.LinkFile.{link_bytes}
+use Rattle.fields.specs.Writing.{WroteIfRoom, WroteOrNothing}
+use Rattle.fields.proofs.WritingLaws.{then_wrote, room_more, row_is}
 use Rattle.board.specs.declared.Board.{Board}
-use Rattle.board.specs.Board.{WellFormed}
+use Rattle.board.specs.Board.{no_curve, no_link, WellFormed}
 use Rattle.board.specs.Tests.{Decides}
-use Rattle.design.specs.Design.{link_bytes, parts_bytes, links_bytes, linked_bytes, body_bytes, head_bytes, file_of}
+use Rattle.design.specs.Design.{parts_bytes, links_bytes, linked_bytes, body_bytes, head_bytes, file_of}
 use Rattle.design_write.specs.Write.{write_of, buffer_of, FileCounted, FileWritten}
 
 never : (t : Bool) → t ≡ true → t ≡ false → ⊥
 never t e f = let z : ◌≡◌ {A = ℕ} 0 1 = cc in omega arith
 
 -- ---- sizes
-pub link_counted : (link : Link) (f t : ℕ) → f ≡ length (encode link.from) → t ≡ length (encode link.to) → f + t ≡ length (link_bytes link)
-link_counted link f t from to = omega (arith, length-append (encode link.from) (encode link.to))
+-- the rows of a well-formed board
+pub curves_are : (b : Board) → WellFormed b → parts_bytes b b.parts ≡ flat_map curve_bytes (take b.parts b.curve)
+unfolding parts_bytes
+curves_are b w = row_is curve_bytes b.curve no_curve b.parts (omega (arith, w.parts_to, w.curve_room))
 
-pub row_counted_all : (bytes : ℕ → List ℕ) (i n size : ℕ) → size ≡ length (in_row bytes i) → i ≤ n → n ≤ i → size ≡ length (in_row bytes n)
-row_counted_all bytes i n size is l h = finished (λ (k : ℕ). length (in_row bytes k)) l h is
+pub links_are : (b : Board) → WellFormed b → links_bytes b b.links ≡ flat_map link_bytes (take b.links b.link)
+unfolding links_bytes
+links_are b w = row_is link_bytes b.link no_link b.links (omega (arith, w.links_to, w.link_room))
 
 pub file_counted :
-    (b : Board) (one deadline parts curves links row : ℕ) →
+    (b : Board) (one deadline parts curves links row : ℕ) → WellFormed b →
     one ≡ length (encode 1) → deadline ≡ length (encode b.deadline.0) → parts ≡ length (encode b.parts) →
-    curves ≡ length (parts_bytes b b.parts) → links ≡ length (encode b.links) → row ≡ length (links_bytes b b.links) →
+    curves ≡ length (flat_map curve_bytes (take b.parts b.curve)) → links ≡ length (encode b.links) → row ≡ length (flat_map link_bytes (take b.links b.link)) →
     one + deadline + parts + (curves + (links + row)) ≡ length (file_of b)
 unfolding file_of head_bytes body_bytes linked_bytes
-file_counted b one deadline parts curves links row is_one is-deadline is-parts is-curves is-links is_row =
+file_counted b one deadline parts curves links row w is_one is-deadline is-parts is-curves is-links is_row =
     let d = encode b.deadline.0 in
     let p = encode b.parts in
     let c = parts_bytes b b.parts in
@@ -53,72 +57,67 @@ file_counted b one deadline parts curves links row is_one is-deadline is-parts i
       length-append p (c ++ (l ++ r)),
       length-append c (l ++ r),
       length-append l r,
+      ap length (curves_are b w),
+      ap length (links_are b w),
     )
 
 -- ---- `design_size`
 module _ (b : Board) (t : Bool) (test : Decides t (WellFormed b)) where
-  pub formed : not t ≡ false → WellFormed b
-  formed is = test.yes (not-false t is)
+  pub formed : t ≡ true → WellFormed b
+  formed is = test.yes is
 
-  pub counted : (r : ℕ) → not t ≡ false → r ≡ length (file_of b) → FileCounted b r
-  counted r is size = record { formed = λ w. size; none = λ no. absurd (no (test.yes (not-false t is))) }
-
-  pub uncounted : not t ≡ true → FileCounted b 0
-  uncounted is = record { formed = λ w. absurd (never t (test.no w) (not-true t is)); none = λ no. refl }
+  pub counted : (r : ℕ) → t ≡ true → r ≡ length (file_of b) → FileCounted b (Some r)
+  counted r is size = record { formed = λ w. ap Some size; none = λ no. absurd (no (test.yes is)) }
 
 -- ---- writers one after the other
-pub link_written :
-    (buf : List ℕ) (at : ℕ) (link : Link) (m : ℕ) (buf₁ : List ℕ) (n : ℕ) (buf₂ : List ℕ) →
-    WroteOrNothing buf at (encode link.from) m buf₁ → WroteOrNothing buf₁ m (encode link.to) n buf₂ → WroteIfRoom buf at (link_bytes link) n buf₂
-link_written buf at link m buf₁ n buf₂ one two = both_wrote buf at _ m buf₁ _ n buf₂ one two
-
-pub head_written :
-    (b : Board) (buf : List ℕ) (at m : ℕ) (buf₁ : List ℕ) (n : ℕ) (buf₂ : List ℕ) (e : ℕ) (buf₃ : List ℕ) →
-    WroteOrNothing buf at (encode b.deadline.0) m buf₁ → WroteOrNothing buf₁ m (encode b.parts) n buf₂ → WroteIfRoom buf₂ n (body_bytes b) e buf₃ →
-    WroteIfRoom buf at (head_bytes b) e buf₃
-unfolding head_bytes
-head_written b buf at m buf₁ n buf₂ e buf₃ one two three =
-    then_wrote buf at _ m buf₁ _ e buf₃ one (then_wrote buf₁ m _ n buf₂ _ e buf₃ two three)
+pub file_filled :
+    (b : Board) (buf : List ℕ) (m₁ : ℕ) (b₁ : List ℕ) (m₂ : ℕ) (b₂ : List ℕ) (m₃ : ℕ) (b₃ : List ℕ) (m₄ : ℕ) (b₄ : List ℕ) (m₅ : ℕ) (b₅ : List ℕ) (m₆ : ℕ) (b₆ : List ℕ) →
+    WellFormed b → WroteOrNothing buf 0 (encode 1) m₁ b₁ → WroteOrNothing b₁ m₁ (encode b.deadline.0) m₂ b₂ → WroteOrNothing b₂ m₂ (encode b.parts) m₃ b₃ →
+    WroteIfRoom b₃ m₃ (flat_map curve_bytes (take b.parts b.curve)) m₄ b₄ → WroteOrNothing b₄ m₄ (encode b.links) m₅ b₅ →
+    WroteIfRoom b₅ m₅ (flat_map link_bytes (take b.links b.link)) m₆ b₆ → WroteIfRoom buf 0 (file_of b) m₆ b₆
+unfolding file_of head_bytes body_bytes linked_bytes
+file_filled b buf m₁ b₁ m₂ b₂ m₃ b₃ m₄ b₄ m₅ b₅ m₆ b₆ w one deadline parts curves links row =
+    rw (curves_are b w, links_are b w)
+    (then_wrote buf 0 _ m₁ b₁ _ m₆ b₆ one
+    (then_wrote b₁ m₁ _ m₂ b₂ _ m₆ b₆ deadline
+    (then_wrote b₂ m₂ _ m₃ b₃ _ m₆ b₆ parts
+    (room_more b₃ m₃ _ m₄ b₄ _ m₆ b₆ curves
+    (then_wrote b₄ m₄ _ m₅ b₅ _ m₆ b₆ links row)))))
 
 -- ---- `write_design`
-short_stays : (short : Bool) (buf full : List ℕ) (w why : Why) (q place : ℕ) → pick short (Refused w q) Done ≡ Refused why place → pick short buf full ≡ buf
+short_stays : (short : Bool) (buf full : List ℕ) (w e : Refusal) → pick {A = Answer Unit} short (Err w) (Ok tt) ≡ Err e → pick short buf full ≡ buf
 unfolding pick
-short_stays true buf full w why q place e = refl
-short_stays false buf full w why q place e = absurd (let z : ◌≡◌ {A = ℕ} 0 1 = cc in omega arith)
+short_stays true buf full w e is = refl
+short_stays false buf full w e is = absurd (let z : ◌≡◌ {A = ℕ} 0 1 = cc in omega arith)
 
-write_stays : (b : Board) (buf : List ℕ) (why : Why) (place : ℕ) → write_of b buf ≡ Refused why place → buffer_of b buf ≡ buf
+write_stays : (b : Board) (buf : List ℕ) (e : Refusal) → write_of b buf ≡ Err e → buffer_of b buf ≡ buf
 unfolding write_of buffer_of
-write_stays b buf why place e = short_stays _ buf _ _ why _ place e
+write_stays b buf e is = short_stays _ buf _ _ e is
 
-pub refused : (b : Board) (t : Bool) (buf : List ℕ) → Decides t (WellFormed b) → not t ≡ true → FileWritten b buf (Refused NoBoard 0) buf
-refused b t buf test is = record { formed = λ w. absurd (never t (test.no w) (not-true t is)); none = λ no. (refl, refl); stays = λ why place e. refl }
+pub refused : (b : Board) (t : Bool) (buf : List ℕ) (e : Refusal) → Decides t (WellFormed b) → t ≡ false → e ≡ refusal_at NoBoard 0 → FileWritten b buf (Err e) buf
+refused b t buf e test is fault = record { formed = λ w. absurd (never t (test.no w) is); none = λ no. (ap Err fault, refl); stays = λ e is. refl }
 
-module _ (b : Board) (t : Bool) (test : Decides t (WellFormed b)) (is_formed : not t ≡ false) (buf : List ℕ) (needed : ℕ) (is : needed ≡ length (file_of b)) where
-  for_formed : (r : Answer) (buf' : List ℕ) → r ≡ write_of b buf → buf' ≡ buffer_of b buf → FileWritten b buf r buf'
-  for_formed r buf' answer after = record { formed = λ w. (answer, after); none = λ no. absurd (no (test.yes (not-false t is_formed))); stays = λ why place e. after ∙ write_stays b buf why place (sym answer ∙ e) }
+module _ (b : Board) (t : Bool) (test : Decides t (WellFormed b)) (is_formed : t ≡ true) (buf : List ℕ) (needed : ℕ) (is : needed ≡ length (file_of b)) where
+  for_formed : (r : Answer Unit) (buf' : List ℕ) → r ≡ write_of b buf → buf' ≡ buffer_of b buf → FileWritten b buf r buf'
+  for_formed r buf' answer after = record { formed = λ w. (answer, after); none = λ no. absurd (no (test.yes is_formed)); stays = λ e is. after ∙ write_stays b buf e (sym answer ∙ is) }
 
-  pub too_short : length buf < needed → FileWritten b buf (Refused BufferShort needed) buf
+  pub too_short : (e : Refusal) → length buf < needed → e ≡ refusal_at BufferShort needed → FileWritten b buf (Err e) buf
   unfolding write_of buffer_of pick
-  too_short h = for_formed _ buf (rw (← is, lt-ltb (length buf) needed h)) (rw (← is, lt-ltb (length buf) needed h))
+  too_short e h fault = for_formed _ buf (rw (← is, lt-ltb (length buf) needed h) (ap Err fault)) (rw (← is, lt-ltb (length buf) needed h))
 
   module _ (h : needed ≤ length buf) where
-    done : Done ≡ write_of b buf
+    done : Ok tt ≡ write_of b buf
     unfolding write_of pick
     done = rw (← is, le-ltb (length buf) needed h)
 
-    file_room : 0 + length (encode 1 ++ head_bytes b) ≤ length buf
-    unfolding file_of
-    file_room = omega arith
-
-    module _ (next : ℕ) (buf₁ : List ℕ) (one : WroteOrNothing buf 0 (encode 1) next buf₁) (n : ℕ) (buf₂ : List ℕ) (two : WroteIfRoom buf₁ next (head_bytes b) n buf₂) where
-      filled : buf₂ ≡ buffer_of b buf
-      unfolding buffer_of file_of pick
+    module _ (n : ℕ) (buf' : List ℕ) (wrote : WroteIfRoom buf 0 (file_of b) n buf') where
+      filled : buf' ≡ buffer_of b buf
+      unfolding buffer_of pick
       filled =
-          let all = (then_wrote buf 0 (encode 1) next buf₁ (head_bytes b) n buf₂ one two).wrote file_room in
-          let long : needed ≡ length (encode 1 ++ head_bytes b) = is in
-          let past : 0 + length (encode 1 ++ head_bytes b) ≡ needed = omega arith in
-          rw (← long, le-ltb (length buf) needed h)
-          (all.holds ∙ sets-eq (encode 1 ++ head_bytes b) buf 0 file_room ∙ ap (λ (i : ℕ). (encode 1 ++ head_bytes b) ++ drop i buf) past)
+          let room : 0 + length (file_of b) ≤ length buf = omega arith in
+          let all = wrote.wrote room in
+          rw (← is, le-ltb (length buf) needed h)
+          (all.holds ∙ sets-eq (file_of b) buf 0 room ∙ (let past : 0 + length (file_of b) ≡ needed = omega arith in ap (λ (i : ℕ). file_of b ++ drop i buf) past))
 
-      pub file_written : FileWritten b buf Done buf₂
-      file_written = for_formed Done buf₂ done filled
+      pub file_written : FileWritten b buf (Ok tt) buf'
+      file_written = for_formed (Ok tt) buf' done filled

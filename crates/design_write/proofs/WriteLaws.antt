@@ -7,9 +7,10 @@ use Prim.Native.Nat.{ℕ, ◌≤◌}
 use lib.ListN.{length, take, drop}
 use lib.Seq.{take-append_seam}
 use borrow.Author.Tests.{le-ltb}
+use Rattle.std.specs.Prelude.{Option}
 use Rattle.base.specs.Pick.{pick}
-use Rattle.refusal.specs.declared.Answer.{Answer}
-use Rattle.fields.specs.Parse.{got}
+use Rattle.refusal.specs.Refusal.{Answer}
+use Rattle.groups.specs.Parse.{got}
 use Rattle.board.specs.declared.Board.{Board}
 use Rattle.board.specs.Board.{WellFormed}
 use Rattle.board.proofs.TestLaws.{formed_or_not}
@@ -27,11 +28,11 @@ module _ (b : Board) where
   either : {A : Type 0} → (WellFormed b → A) → ((WellFormed b → ⊥) → A) → A
   either formed none = ⊎_elim formed none (formed_or_not b)
 
-  pub one_count : (r r' : ℕ) → FileCounted b r → FileCounted b r' → r ≡ r'
+  pub one_count : (r r' : Option ℕ) → FileCounted b r → FileCounted b r' → r ≡ r'
   one_count r r' one two = either (λ w. one.formed w ∙ sym (two.formed w)) (λ no. one.none no ∙ sym (two.none no))
 
   pub one_write :
-      (buf : List ℕ) (r r' : Answer) (buf₁ buf₂ : List ℕ) → FileWritten b buf r buf₁ → FileWritten b buf r' buf₂ → (r ≡ r') × (buf₁ ≡ buf₂)
+      (buf : List ℕ) (r r' : Answer Unit) (buf₁ buf₂ : List ℕ) → FileWritten b buf r buf₁ → FileWritten b buf r' buf₂ → (r ≡ r') × (buf₁ ≡ buf₂)
   one_write buf r r' buf₁ buf₂ one two =
       either
       (λ w. ((one.formed w).0 ∙ sym (two.formed w).0, (one.formed w).1 ∙ sym (two.formed w).1))

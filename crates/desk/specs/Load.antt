@@ -1,14 +1,12 @@
 -- Demand 2: "A load is accepted, and holds the board that its file describes, exactly when no listed refusal applies."
 -- Assumes nothing.
-use Rattle.std.specs.Prelude.{◌≡◌, ◌≢◌, List, [], ℕ}
-use Rattle.refusal.specs.Refusal.{refusal}
-use Rattle.refusal.specs.declared.Answer.{Answer}
-use Rattle.refusal.specs.declared.Answer.TheVariants.{Done, Refused}
+use Rattle.std.specs.Prelude.{◌≡◌, ◌≢◌, List, [], ℕ, Ok, Err}
+use Rattle.refusal.specs.Refusal.{Answer, refusal}
 use Rattle.board.specs.declared.Rule.{Rule}
 use Rattle.board.specs.declared.Board.{Board}
 use Rattle.board.specs.Board.{rule_number}
 use Rattle.slow.specs.Walk.{trail_of}
-use Rattle.fields.specs.Parse.{Parse, got, stop}
+use Rattle.groups.specs.Parse.{Parse}
 use Rattle.design.specs.Design.{design_of}
 use Rattle.desk.specs.declared.Tally.{Tally}
 use Rattle.desk.specs.declared.Desk.{Desk}
@@ -20,12 +18,12 @@ abbrev pub no_tally : Tally
 no_tally = record { taken = 0; refused = 0 }
 
 -- a refused load changes nothing
-abbrev pub load_refused : Answer → List ℕ → Desk → Tally → Loaded
+abbrev pub load_refused : Answer Unit → List ℕ → Desk → Tally → Loaded
 load_refused answer path d t = record { answer = answer; path = trail_of path; desk = d; tally = t }
 
-abbrev pub tally_loaded : Answer → Tally → Tally
-tally_loaded Done t = no_tally
-tally_loaded (Refused why place) t = t
+abbrev pub tally_loaded : Answer Unit → Tally → Tally
+tally_loaded (Ok done) t = no_tally
+tally_loaded (Err e) t = t
 
 -- the file was read as the board b
 pub record LoadJudged (b : Board) (d : Desk) (t : Tally) (r : Loaded) : Type 0 where
@@ -34,8 +32,8 @@ pub record LoadJudged (b : Board) (d : Desk) (t : Tally) (r : Loaded) : Type 0 w
 
 -- what a load of the bytes s comes to: the first of 1 to 8, or what the board described comes to
 abbrev pub LoadParsed : Parse Board → Desk → Tally → Loaded → Type 0
-LoadParsed (stop why place) d t r = r ≡ load_refused (Refused why place) [] d t
-LoadParsed (got b next) d t r = LoadJudged b d t r
+LoadParsed (Err e) d t r = r ≡ load_refused (Err e) [] d t
+LoadParsed (Ok read) d t r = LoadJudged read.value d t r
 
 -- .. under a rule
 pub record LoadRead (d : Desk) (rule : Rule) (s : List ℕ) (t : Tally) (r : Loaded) : Type 0 where

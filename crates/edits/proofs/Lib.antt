@@ -1,4 +1,5 @@
 pub mod Ways
+pub mod Moved
 pub mod Places
 pub mod LinkEdits
 pub mod PlainEdits

@@ -33,9 +33,9 @@ module _ (b : Board) (w : WellFormed b) (x : Link) (small : x.to < 64) where
   pub place_parts : Parted (orders b) (order x) b.links (place_of b x)
   unfolding place_of count_before pick
   place_parts = rw (le-leb _ _ w.links_to)
-      (parted b.links (orders b) (λ l. below_of (link_at b l) x) (order x) w.ascends
-      (λ l h s. below_one (link_at b l) x (to_below b w l h) small s)
-      (λ l h s. below_none (link_at b l) x (to_below b w l h) small s)
+      (parted b.links (orders b) (λ l. pick (below_of (link_at b l) x) 1 0) (order x) w.ascends
+      (λ l h s. rw (below_one (link_at b l) x (to_below b w l h) small s))
+      (λ l h s. rw (below_none (link_at b l) x (to_below b w l h) small s))
       b.links (omega arith))
 
   -- a link with the order of x stands at its place
@@ -111,7 +111,7 @@ module _ (old : List Link) (f : ℕ → Link) where
 
 module _ (old : List Link) (long : length old ≡ 256) (at : ℕ) where
   module _ (x : Link) where
-    inserted_at_lem : (k : ℕ) → k < 256 → get_or (inserted_of old at x) k no_link ≡ inserted_at old at x k
+    pub inserted_at_lem : (k : ℕ) → k < 256 → get_or (inserted_of old at x) k no_link ≡ inserted_at old at x k
     unfolding inserted_of
     inserted_at_lem k h = filled_at old (inserted_at old at x) 256 k (rw long (omega arith)) h
 
@@ -135,7 +135,7 @@ module _ (old : List Link) (long : length old ≡ 256) (at : ℕ) where
         let less : suc k - 1 ≡ k = omega arith in
         inserted_at_lem (suc k) h ∙ rw (le-ltb _ _ past, ne_eqb _ _ other, less)
 
-  removed_at_lem : (k : ℕ) → k < 256 → get_or (removed_of old at) k no_link ≡ removed_at old at k
+  pub removed_at_lem : (k : ℕ) → k < 256 → get_or (removed_of old at) k no_link ≡ removed_at old at k
   unfolding removed_of
   removed_at_lem k h = filled_at old (removed_at old at) 256 k (rw long (omega arith)) h
 

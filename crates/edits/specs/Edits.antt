@@ -13,7 +13,7 @@ use Rattle.board.specs.Tests.{below_of}
 
 -- how many of the first n links stand before x
 unfoldable pub count_before : Board → Link → ℕ → ℕ
-count_before b x n = sum n (λ l. below_of (link_at b l) x)
+count_before b x n = sum n (λ l. pick (below_of (link_at b l) x) 1 0)
 
 -- how many links stand before x: its place, if it is there
 unfoldable pub place_of : Board → Link → ℕ

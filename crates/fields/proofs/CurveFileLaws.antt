@@ -2,7 +2,7 @@
 -- Assumes nothing.
 use mathlib.Core.Path.{◌≡◌, ap, ◌∙◌}
 use mathlib.Core.List.{List, [], ◌++◌}
-use Prim.Native.Nat.{ℕ, ◌+◌, ◌-◌, ◌≤◌, ◌<◌}
+use Prim.Native.Nat.{ℕ, ◌+◌, ◌≤◌, ◌<◌}
 use native.Mathlib.Omega.{arith}
 use mathlib.Core.Logic.{⊎_elim}
 use lib.ListN.{length, length-append}
@@ -15,7 +15,8 @@ use Rattle.groups.proofs.RoundTrip.{Bytes}
 use Rattle.curve.specs.declared.Run.{Run}
 use Rattle.curve.specs.declared.Curve.{Curve}
 use Rattle.curve.specs.Curve.{power_max, no_run, run_at, length_at, saving_at, savings_of, Good}
-use Rattle.fields.specs.Parse.{got, and_then, field_at}
+use Rattle.groups.specs.Parse.{got}
+use Rattle.fields.specs.Parse.{and_then, field_at}
 use Rattle.fields.specs.CurveFile.{runs_from, curve_from, run_bytes, runs_bytes, numbers_of, curve_bytes}
 use Rattle.fields.proofs.ParseLaws.{then_got, pick_passed, got_same, field_got}
 use Rattle.fields.proofs.Stands.{Stands, stands_first, stands_then, stands_join, field_reads_back, field_stands, field_next}
@@ -60,7 +61,7 @@ curve_told s at c next is =
     let p = then_got _ _ c next f.rest in
     let n = then_got _ _ c next p.rest in
     let r = then_got _ _ c next n.rest in
-    let t = pick_passed _ _ _ _ c next r.rest in
+    let t = pick_passed _ _ _ c next r.rest in
     let few = (field_got s 0 4 p.place n.value n.place n.first).to in
     got_same (CurveTold s at) r.value c r.place next t.is
     (told s at r.value r.place f.value p.value n.value f.place p.place n.place f.first p.first n.first

@@ -1,25 +1,19 @@
 -- Reading in steps: a fault stays, and a field's value is within its range.
 -- Assumes nothing.
-use mathlib.Core.Path.{◌≡◌, refl}
+use mathlib.Core.Path.{◌≡◌, refl, ap}
 use mathlib.Core.Bool.{Bool, true, false}
 use mathlib.Core.List.{List}
 use Prim.Native.Nat.{ℕ, zero, suc, ◌+◌, ◌-◌, ◌≤◌, ◌<◌}
 use native.Mathlib.Numerals.{add-one}
 use native.Mathlib.Omega.{arith}
 use borrow.Author.Tests.{le-ltb, ltb-false}
+use Rattle.std.specs.Prelude.{Ok, Err}
 use Rattle.base.specs.Pick.{pick}
-use Rattle.refusal.specs.declared.Why.{Why}
+use Rattle.refusal.specs.declared.Refusal.{Refusal}
 use Rattle.groups.specs.declared.Read.{Read}
-use Rattle.groups.specs.declared.Read.TheVariants.{Number, Refused}
 use Rattle.groups.specs.Number.{number_at}
-use Rattle.fields.specs.Parse.{Parse, got, stop, and_then, repeat, number, ranged_at, field_at}
-
--- two readings that stand for one parse are the same reading
-pub number_once : (a b : Read) → number a ≡ number b → a ≡ b
-number_once (Number v n) (Number w m) e = cc
-number_once (Number v n) (Refused w p) e = let z : ◌≡◌ {A = ℕ} 0 1 = cc in absurd (omega arith)
-number_once (Refused w p) (Number v n) e = let z : ◌≡◌ {A = ℕ} 0 1 = cc in absurd (omega arith)
-number_once (Refused w p) (Refused v q) e = cc
+use Rattle.groups.specs.Parse.{Parse, got}
+use Rattle.fields.specs.Parse.{and_then, repeat, ranged_at, field_at}
 
 -- a step that ended well, and one that met a fault
 module _ {A : Type 0} (step : ℕ → A → ℕ → Parse A) (a : A) (at k : ℕ) where
@@ -28,22 +22,22 @@ module _ {A : Type 0} (step : ℕ → A → ℕ → Parse A) (a : A) (at k : ℕ
     unfolding repeat and_then
     repeat_on c m e = rw (add-one, is) e
 
-    repeat_stops : (why : Why) (place : ℕ) → step k b n ≡ stop why place → repeat step a at (suc k) ≡ stop why place
+    repeat_stops : (e : Refusal) → step k b n ≡ Err e → repeat step a at (suc k) ≡ Err e
     unfolding repeat and_then
-    repeat_stops why place e = rw is e
+    repeat_stops e stops = rw is stops
 
   -- a fault stays
-  pub repeat_stays : (why : Why) (place : ℕ) → repeat step a at k ≡ stop why place → (j : ℕ) → repeat step a at (j + k) ≡ stop why place
+  pub repeat_stays : (e : Refusal) → repeat step a at k ≡ Err e → (j : ℕ) → repeat step a at (j + k) ≡ Err e
   unfolding repeat and_then
-  repeat_stays why place e zero = let q : 0 + k ≡ k = omega arith in rw q e
-  repeat_stays why place e (suc j) = let q : suc j + k ≡ suc (j + k) = omega arith in rw (q, repeat_stays why place e j)
+  repeat_stays e stopped zero = let q : 0 + k ≡ k = omega arith in rw q stopped
+  repeat_stays e stopped (suc j) = let q : suc j + k ≡ suc (j + k) = omega arith in rw (q, repeat_stays e stopped j)
 
 pub repeat_fault :
-    {A : Type 0} (step : ℕ → A → ℕ → Parse A) (a : A) (at k n : ℕ) (b : A) (m : ℕ) (why : Why) (place : ℕ) →
-    repeat step a at k ≡ got b m → step k b m ≡ stop why place → k < n → repeat step a at n ≡ stop why place
-repeat_fault step a at k n b m why place is e l =
+    {A : Type 0} (step : ℕ → A → ℕ → Parse A) (a : A) (at k n : ℕ) (b : A) (m : ℕ) (e : Refusal) →
+    repeat step a at k ≡ got b m → step k b m ≡ Err e → k < n → repeat step a at n ≡ Err e
+repeat_fault step a at k n b m e is stops l =
     let q : n ≡ n - suc k + suc k = omega arith in
-    rw q (repeat_stays step a at (suc k) why place (repeat_stops step a at k b m is why place e) (n - suc k))
+    rw q (repeat_stays step a at (suc k) e (repeat_stops step a at k b m is e stops) (n - suc k))
 
 -- ---- what a reading in two steps came to
 pub record Then {A B : Type 0} (p : Parse A) (f : A → ℕ → Parse B) (b : B) (n : ℕ) : Type 0 where
@@ -54,30 +48,35 @@ pub record Then {A B : Type 0} (p : Parse A) (f : A → ℕ → Parse B) (b : B)
 
 pub then_got : {A B : Type 0} (p : Parse A) (f : A → ℕ → Parse B) (b : B) (n : ℕ) → and_then p f ≡ got b n → Then p f b n
 unfolding and_then
-then_got (got a m) f b n e = record { value = a; place = m; first = refl; rest = e }
-then_got (stop why place) f b n e = let z : ◌≡◌ {A = ℕ} 0 1 = cc in absurd (omega arith)
+then_got (Ok r) f b n e = record { value = r.value; place = r.next; first = refl; rest = e }
+then_got (Err why) f b n e = let z : ◌≡◌ {A = ℕ} 0 1 = cc in absurd (omega arith)
 
 -- a test was passed
 pub record Passed {A : Type 0} (t : Bool) (p : Parse A) (a : A) (n : ℕ) : Type 0 where
   pub holds : t ≡ true
   pub is : p ≡ got a n
 
-pub pick_passed : {A : Type 0} (t : Bool) (p : Parse A) (why : Why) (place : ℕ) (a : A) (n : ℕ) → pick t p (stop why place) ≡ got a n → Passed t p a n
+pub pick_passed : {A : Type 0} (t : Bool) (p : Parse A) (e : Refusal) (a : A) (n : ℕ) → pick t p (Err e) ≡ got a n → Passed t p a n
 unfolding pick
-pick_passed true p why place a n e = record { holds = refl; is = e }
-pick_passed false p why place a n e = let z : ◌≡◌ {A = ℕ} 0 1 = cc in absurd (omega arith)
+pick_passed true p e a n is = record { holds = refl; is = is }
+pick_passed false p e a n is = let z : ◌≡◌ {A = ℕ} 0 1 = cc in absurd (omega arith)
 
-pub pick_not_stopped : {A : Type 0} (t : Bool) (p : Parse A) (why : Why) (place : ℕ) (a : A) (n : ℕ) → pick t (stop why place) p ≡ got a n → (t ≡ false) × (p ≡ got a n)
+pub pick_not_stopped : {A : Type 0} (t : Bool) (p : Parse A) (e : Refusal) (a : A) (n : ℕ) → pick t (Err e) p ≡ got a n → (t ≡ false) × (p ≡ got a n)
 unfolding pick
-pick_not_stopped true p why place a n e = let z : ◌≡◌ {A = ℕ} 0 1 = cc in absurd (omega arith)
-pick_not_stopped false p why place a n e = (refl, e)
+pick_not_stopped true p e a n is = let z : ◌≡◌ {A = ℕ} 0 1 = cc in absurd (omega arith)
+pick_not_stopped false p e a n is = (refl, is)
+
+-- one reading finds one value, and ends at one place
+pub read_same : {A : Type 0} (a b : A) (m n : ℕ) → ◌≡◌ {A = Parse A} (got a m) (got b n) → (a ≡ b) × (m ≡ n)
+read_same {A} a b m n is =
+    let e : ◌≡◌ {A = Read A} (record { value = a; next = m }) (record { value = b; next = n }) = cc in
+    (ap (λ (r : Read A). r.value) e, ap (λ (r : Read A). r.next) e)
 
 -- what holds of one result holds of the other
-pub got_same : {A : Type 0} (P : A → ℕ → Type 0) (a b : A) (m n : ℕ) → got a m ≡ got b n → P a m → P b n
+pub got_same : {A : Type 0} (P : A → ℕ → Type 0) (a b : A) (m n : ℕ) → ◌≡◌ {A = Parse A} (got a m) (got b n) → P a m → P b n
 got_same P a b m n is holds =
-    let value : a ≡ b = cc in
-    let place : m ≡ n = cc in
-    rw (← value, ← place) holds
+    let same = read_same a b m n is in
+    rw (← same.0, ← same.1) holds
 
 -- what each step keeps holds at the end of all
 pub repeat_keeps :
@@ -95,27 +94,24 @@ repeat_keeps step a at most P none more (suc k) h b n e =
 pub record Ranged (s : List ℕ) (low high at v n : ℕ) : Type 0 where
   pub from : low ≤ v
   pub to : v ≤ high
-  pub read : number_at s at ≡ Number v n
-
-pub number_read : (r : Read) (v n : ℕ) → number r ≡ got v n → r ≡ Number v n
-number_read (Number w m) v n e = cc
-number_read (Refused why place) v n e = let z : ◌≡◌ {A = ℕ} 0 1 = cc in absurd (omega arith)
+  pub read : number_at s at ≡ got v n
 
 pub field_got : (s : List ℕ) (low high at v n : ℕ) → field_at s low high at ≡ got v n → Ranged s low high at v n
 unfolding field_at ranged_at
 field_got s low high at v n e =
-    let read = then_got (number (number_at s at)) (ranged_at low high at) v n e in
-    let low_ok = pick_not_stopped _ _ _ _ v n read.rest in
-    let high-ok = pick_not_stopped _ _ _ _ v n low_ok.1 in
-    let value : read.value ≡ v = let is = high-ok.1 in cc in
-    let place : read.place ≡ n = let is = high-ok.1 in cc in
+    let read = then_got (number_at s at) (ranged_at low high at) v n e in
+    let low_ok = pick_not_stopped _ _ _ v n read.rest in
+    let high-ok = pick_not_stopped _ _ _ v n low_ok.1 in
+    let same = read_same read.value v read.place n high-ok.1 in
+    let value = same.0 in
+    let place = same.1 in
     record {
       from = rw value at (ltb-false read.value low low_ok.0);
       to = rw value at (ltb-false high read.value high-ok.0);
-      read = rw (value, place) at (number_read (number_at s at) read.value read.place read.first);
+      read = rw (value, place) at read.first;
     }
 
 -- a number in its range is read as a field
-pub field_reads : (s : List ℕ) (low high at v n : ℕ) → number_at s at ≡ Number v n → low ≤ v → v ≤ high → field_at s low high at ≡ got v n
+pub field_reads : (s : List ℕ) (low high at v n : ℕ) → number_at s at ≡ got v n → low ≤ v → v ≤ high → field_at s low high at ≡ got v n
 unfolding field_at ranged_at and_then pick
 field_reads s low high at v n is from to = rw (is, le-ltb _ _ from, le-ltb _ _ to)

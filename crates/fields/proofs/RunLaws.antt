@@ -18,7 +18,8 @@ use Rattle.groups.proofs.RoundTrip.{Bytes}
 use Rattle.curve.specs.declared.Run.{Run}
 use Rattle.curve.specs.declared.Curve.{Curve}
 use Rattle.curve.specs.Curve.{no_run, run_at, length_at, saving_at, Good}
-use Rattle.fields.specs.Parse.{got, and_then, repeat, field_at}
+use Rattle.groups.specs.Parse.{got}
+use Rattle.fields.specs.Parse.{and_then, repeat, field_at}
 use Rattle.fields.specs.CurveFile.{bare, with_run, falls, run_from, runs_bytes}
 use Rattle.fields.specs.Writing.{in_row}
 use Rattle.fields.proofs.ParseLaws.{then_got, pick_passed, got_same, repeat_keeps, field_got}
@@ -173,7 +174,7 @@ module _ (s : List ℕ) (fastest power count at : ℕ) where
   run_read k c m d n few before is =
       let l = then_got _ _ d n is in
       let v = then_got _ _ d n l.rest in
-      let t = pick_passed _ _ _ _ d n v.rest in
+      let t = pick_passed _ _ _ d n v.rest in
       got_same (RunsRead s fastest power count at (suc k)) _ d _ n t.is (more_read k c m l.value l.place v.value v.place few before l.first v.first t.holds)
 
   pub runs_read : (c : Curve) (n : ℕ) → count ≤ 4 → repeat (run_from s) (bare fastest power count) at count ≡ got c n → RunsRead s fastest power count at count c n

@@ -7,10 +7,10 @@ use native.Mathlib.Omega.{arith}
 use native.Mathlib.Nat.{add-zero}
 use lib.ListN.{length, drop, length-append, take-append-drop}
 use lib.Seq.{drop-drop, drop-append_seam}
-use Rattle.groups.specs.declared.Read.TheVariants.{Number}
 use Rattle.groups.specs.Number.{limit, number_at, encode}
 use Rattle.groups.proofs.RoundTrip.{reads_at, writes_back, number_next, number_ends_at, Bytes}
-use Rattle.fields.specs.Parse.{got, field_at}
+use Rattle.groups.specs.Parse.{got}
+use Rattle.fields.specs.Parse.{field_at}
 use Rattle.fields.proofs.ParseLaws.{field_got, field_reads}
 
 -- the bytes w stand at a place of s, and end at `next`
@@ -60,10 +60,10 @@ stands_whole s w x =
     sym (append_none w) ∙ ap (λ (l : List ℕ). w ++ l) (sym none) ∙ sym x.here
 
 -- ---- numbers
-pub number_reads : {s : List ℕ} {at : ℕ} (v : ℕ) {n : ℕ} → v < limit → Stands s at (encode v) n → number_at s at ≡ Number v n
-number_reads {s} {at} v {n} less x = reads_at s x.after at v less x.here ∙ ap (λ (i : ℕ). Number v i) (sym x.ends)
+pub number_reads : {s : List ℕ} {at : ℕ} (v : ℕ) {n : ℕ} → v < limit → Stands s at (encode v) n → number_at s at ≡ got v n
+number_reads {s} {at} v {n} less x = reads_at s x.after at v less x.here ∙ ap (λ (i : ℕ). got v i) (sym x.ends)
 
-pub number_stands : (s : List ℕ) (at v n : ℕ) → Bytes s → number_at s at ≡ Number v n → Stands s at (encode v) n
+pub number_stands : (s : List ℕ) (at v n : ℕ) → Bytes s → number_at s at ≡ got v n → Stands s at (encode v) n
 number_stands s at v n bytes is =
     record {
       after = drop (n - at) (drop at s);

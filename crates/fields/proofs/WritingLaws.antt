@@ -1,14 +1,15 @@
 -- Writers one after the other: what one leaves and the next one leaves, left at once; room for each.
 -- Assumes nothing.
-use mathlib.Core.Path.{◌≡◌, refl, sym, ◌∙◌}
+use mathlib.Core.Path.{◌≡◌, refl, sym, ap, ◌∙◌}
 use mathlib.Core.Logic.{⊎_elim}
 use mathlib.Core.List.{List, [], ◌∷◌, ◌++◌}
-use Prim.Native.Nat.{ℕ, zero, suc, ◌+◌, ◌*◌, ◌-◌, ◌≤◌, ◌<◌}
+use Prim.Native.Nat.{ℕ, zero, suc, ◌+◌, ◌*◌, ◌≤◌, ◌<◌}
 use native.Mathlib.Omega.{arith}
 use native.Mathlib.Nat.{add-zero}
-use native.Mathlib.Numerals.{add-one}
-use lib.ListN.{length, set, length-append}
-use lib.Seq.{sets, length-sets}
+use lib.ListN.{length, get_or, set, take, length-append}
+use lib.Seq.{sets, length-sets, take-suc}
+use Rattle.std.specs.List.{flat_map}
+use Rattle.std.proofs.lemmas.List.{take_more, flat_map_more}
 use borrow.Author.Tests.{le-leb, lt-leb}
 use Rattle.base.specs.Pick.{pick}
 use Rattle.base.proofs.Cases.{lt_or_le}
@@ -82,24 +83,7 @@ wrote_once buf at w n n' buf₁ buf₂ one two = ⊎_elim
     (a.ends ∙ sym b.ends, a.holds ∙ sym b.holds))
     (lt_or_le (length buf) (at + length w))
 
--- ---- a writer that tests its room
-nothing_done : (buf : List ℕ) (at : ℕ) (w : List ℕ) → length buf < at + length w → WroteOrNothing buf at w at buf
-nothing_done buf at w late = record { wrote = λ room. absurd (omega arith); nothing = λ h. (refl, refl) }
-
-pub nothing_to_write : (buf : List ℕ) (at : ℕ) (w : List ℕ) → w ≡ [] → WroteOrNothing buf at w at buf
-nothing_to_write buf at w none = rw none (record { wrote = λ room. wrote_none buf at; nothing = λ h. (refl, refl) })
-
-module _ (buf : List ℕ) (at : ℕ) (w : List ℕ) (needed : ℕ) (is : needed ≡ length w) where
-  pub nothing_too_short : length buf < needed → WroteOrNothing buf at w at buf
-  nothing_too_short short = nothing_done buf at w (omega arith)
-
-  pub nothing_too_late : needed ≤ length buf → length buf - needed < at → WroteOrNothing buf at w at buf
-  nothing_too_late long late = nothing_done buf at w (omega arith)
-
-  pub wrote_in_room : (n : ℕ) (buf' : List ℕ) → needed ≤ length buf → at ≤ length buf - needed → WroteIfRoom buf at w n buf' → WroteOrNothing buf at w n buf'
-  wrote_in_room n buf' long early wrote = record { wrote = wrote.wrote; nothing = λ late. absurd (omega arith) }
-
--- `put`
+-- ---- `put`
 wrote_number : (buf : List ℕ) (at n r : ℕ) (buf' : List ℕ) → r ≡ written_to buf at n → buf' ≡ written buf at n → WroteOrNothing buf at (encode n) r buf'
 unfolding written written_to fits pick
 wrote_number buf at n r buf' next is = record {
@@ -114,30 +98,32 @@ wrote_form buf at n m r buf' same next is = rw (← same) (wrote_number buf at m
 
 -- ---- bytes in a row
 module _ (bytes : ℕ → List ℕ) where
-  pub row_none : 0 ≡ length (in_row bytes 0)
-  unfolding in_row
-  row_none = refl
-
   row_next : (i : ℕ) → length (in_row bytes (suc i)) ≡ length (in_row bytes i) + length (bytes i)
   unfolding in_row
   row_next i = length-append (in_row bytes i) (bytes i)
 
-  pub row_counted : (i size more : ℕ) → size ≡ length (in_row bytes i) → more ≡ length (bytes i) → size + more ≡ length (in_row bytes (i + 1))
-  row_counted i size more is next = rw add-one (omega (arith, row_next i))
-
   pub row_size : (most k : ℕ) → ((i : ℕ) → i < k → length (bytes i) ≤ most) → length (in_row bytes k) ≤ most * k
-  row_size most zero to = rw (← row_none) (omega arith)
+  unfolding in_row
+  row_size most zero to = omega arith
   row_size most (suc k) to = omega (arith, row_next k, row_size most k (λ i h. to i (omega arith)), to k (omega arith))
 
-  module _ (buf₀ : List ℕ) (at : ℕ) where
-    pub row_wrote_none : WroteIfRoom buf₀ at (in_row bytes 0) at buf₀
-    unfolding in_row
-    row_wrote_none = record { wrote = λ room. wrote_none buf₀ at }
+-- ---- a row of forms
+module _ {A : Type 0} (bytes : A → List ℕ) (row : List A) where
+  -- the bytes of the first k in a row, by their places
+  pub row_is : (d : A) (k : ℕ) → k ≤ length row → in_row (λ i. bytes (get_or row i d)) k ≡ flat_map bytes (take k row)
+  unfolding in_row
+  row_is d zero h = refl
+  row_is d (suc k) h = rw (row_is d k (omega arith), take-suc row k d h) (flat_map_more bytes [] (take k row) (get_or row k d))
 
-    module _ (i next : ℕ) (buf : List ℕ) (so_far : WroteIfRoom buf₀ at (in_row bytes i) next buf) where
-      pub row_wrote_more : (next' : ℕ) (buf' : List ℕ) → WroteIfRoom buf next (bytes i) next' buf' → WroteIfRoom buf₀ at (in_row bytes (i + 1)) next' buf'
-      unfolding in_row
-      row_wrote_more next' buf' more = rw add-one (room_more buf₀ at (in_row bytes i) next buf (bytes i) next' buf' so_far more)
+  module _ (i : ℕ) (a d : A) (here : i < length row) (is : a ≡ get_or row i d) where
+    form_next : flat_map bytes (take (i + 1) row) ≡ flat_map bytes (take i row) ++ bytes a
+    form_next = ap (flat_map bytes) (take_more row i d here) ∙ rw (← is) (sym (flat_map_more bytes [] (take i row) a))
 
-      pub row_ended : (n : ℕ) → i ≤ n → n ≤ i → WroteIfRoom buf₀ at (in_row bytes n) next buf
-      row_ended n l h = let same : n ≡ i = omega arith in rw same so_far
+    pub forms_wrote :
+        (buf₀ : List ℕ) (at next : ℕ) (buf : List ℕ) (next' : ℕ) (buf' : List ℕ) →
+        WroteIfRoom buf₀ at (flat_map bytes (take i row)) next buf → WroteIfRoom buf next (bytes a) next' buf' →
+        WroteIfRoom buf₀ at (flat_map bytes (take (i + 1) row)) next' buf'
+    forms_wrote buf₀ at next buf next' buf' so_far more = rw form_next (room_more buf₀ at _ next buf (bytes a) next' buf' so_far more)
+
+pub none_wrote : (buf : List ℕ) (at : ℕ) → WroteIfRoom buf at [] at buf
+none_wrote buf at = record { wrote = λ room. wrote_none buf at }

@@ -2,15 +2,14 @@
 -- Assumes nothing.
 use Rattle.std.specs.Prelude.{ℕ, ◌-◌, Bool, true, List, [], ◌++◌, ltb, leb, eqb, set, replicate}
 use Rattle.base.specs.Pick.{pick}
-use Rattle.refusal.specs.Refusal.{by}
-use Rattle.refusal.specs.declared.Answer.TheVariants.{Done, Refused}
+use Rattle.refusal.specs.Refusal.{refusal}
 use Rattle.curve.specs.declared.Run.{Run}
 use Rattle.curve.specs.declared.Curve.{Curve}
-use Rattle.fields.specs.declared.CurveRead.{CurveRead}
 use Rattle.curve.specs.Curve.{power_max, no_run, run_at, saving_at, savings_of}
 use Rattle.groups.specs.Number.{encode}
 use Rattle.fields.specs.Writing.{in_row}
-use Rattle.fields.specs.Parse.{Parse, got, stop, and_then, repeat, field_at}
+use Rattle.groups.specs.Parse.{Parse, got}
+use Rattle.fields.specs.Parse.{and_then, repeat, field_at}
 
 -- a curve before its runs are read
 unfoldable pub bare : ℕ → ℕ → ℕ → Curve
@@ -39,25 +38,20 @@ unfoldable pub run_from : List ℕ → ℕ → Curve → ℕ → Parse Curve
 run_from s i c at =
     and_then (field_at s 1 255 at) (λ ticks at₁.
     and_then (field_at s 1 1000 at₁) (λ saving at₂.
-    pick (falls c i saving) (got (with_run c i ticks saving) at₂) (stop (by 5) at₁)))
+    pick (falls c i saving) (got (with_run c i ticks saving) at₂) (refusal 5 at₁)))
 
 -- run count and runs. "Refusal 6 comes after a part's last run", at the power's first byte
 unfoldable pub runs_from : List ℕ → ℕ → ℕ → ℕ → ℕ → Parse Curve
 runs_from s fastest power powerPlace at =
     and_then (field_at s 0 4 at) (λ count at₁.
     and_then (repeat (run_from s) (bare fastest power count) at₁ count) (λ c next.
-    pick (leb (savings_of c) power) (got c next) (stop (by 6) powerPlace)))
+    pick (leb (savings_of c) power) (got c next) (refusal 6 powerPlace)))
 
 unfoldable pub curve_from : List ℕ → ℕ → Parse Curve
 curve_from s at =
     and_then (field_at s 1 1023 at) (λ fastest at₁.
     and_then (field_at s 0 power_max at₁) (λ power at₂.
     runs_from s fastest power at₁ at₂))
-
--- what the reader hands back: at a fault no curve, and no place past it
-abbrev pub curve_read : Parse Curve → CurveRead
-curve_read (got c next) = record { answer = Done; next = next; curve = c }
-curve_read (stop why place) = record { answer = Refused why place; next = 0; curve = bare 0 0 0 }
 
 -- ---- the bytes of a curve
 abbrev pub run_bytes : Run → List ℕ

@@ -1,60 +1,29 @@
-// Numbers in their ranges, and a curve, as bytes: one reader and one writer for design files and for orders.
+// Numbers in their ranges, curves and links, as bytes: one reader and one writer for design files and for orders.
 #![tactic(auto)]
 
-ghost use Rattle.std.specs.Prelude.{◌≡◌, ◌*◌, ◌≤◌, ◌<◌, length};
+ghost use Rattle.std.specs.Prelude.{◌≡◌, ℕ, List, ◌++◌, ◌*◌, ◌≤◌, ◌<◌, length};
+ghost use Rattle.std.specs.List.{flat_map};
 ghost use Rattle.groups.specs.Number.{groups, encode};
-ghost use Rattle.fields.specs.Parse.{number, ranged_at, field_at, stop, repeat};
-ghost use Rattle.fields.specs.CurveFile.{bare, falls, run_from, runs_from, curve_from, curve_read, run_bytes, runs_bytes, curve_bytes};
+ghost use Rattle.fields.specs.Parse.{field_at, repeat};
+ghost use Rattle.fields.specs.CurveFile.{bare, falls, run_from, runs_from, curve_from, run_bytes, curve_bytes};
+ghost use Rattle.fields.specs.LinkFile.{link_bytes};
 ghost use Rattle.fields.specs.Writing.{WroteIfRoom, WroteOrNothing};
 
+use board::Link;
 use curve::{Curve, Microwatts, Run, Ticks};
 use groups::Read;
 use refusal::{Answer, Why};
 
-// A curve and the place past it, or the first fault.
-#[derive(Clone, Copy)]
-pub struct CurveRead {
-    pub answer: Answer,
-    pub next: usize,
-    pub curve: Curve,
-}
-
 // The number at a place, which must be from `low` to `high`.
-pub fn field(s: &[u8], at: usize, low: u32, high: u32) -> Read
-    ensures { number result ≡ field_at s.now low high at }
+#[tactic(auto, using(base::proofs::Tests::tests), unfolding(crate::specs::Parse::field_at, crate::specs::Parse::and_then, crate::specs::Parse::ranged_at, base::specs::Pick::pick))]
+pub fn field(s: &[u8], at: usize, low: u32, high: u32) -> Answer<Read<u32>>
+    ensures { result ≡ field_at s.now low high at }
 {
-    match groups::read_number(s, at) {
-        Read::Refused { why, place } => Read::Refused { why, place },
-        Read::Number { value, next } => in_range(value, next, at, low, high),
+    let read = groups::read_number(s, at)?;
+    if read.value < low || high < read.value {
+        return Err(Why::OutOfRange.at(at));
     }
-}
-
-fn in_range(value: u32, next: usize, at: usize, low: u32, high: u32) -> Read
-    ensures { number result ≡ ranged_at low high at value next }
-{
-    if value < low {
-        return Read::Refused {
-            why: Why::OutOfRange,
-            place: at,
-        };
-    }
-    if high < value {
-        return Read::Refused {
-            why: Why::OutOfRange,
-            place: at,
-        };
-    }
-    Read::Number { value, next }
-}
-
-fn refused(why: Why, place: usize) -> CurveRead
-    ensures { result ≡ curve_read (stop why place) }
-{
-    CurveRead {
-        answer: Answer::Refused { why, place },
-        next: 0,
-        curve: bare_curve(Ticks(0), Microwatts(0), 0),
-    }
+    Ok(read)
 }
 
 // A curve before its runs are read.
@@ -74,129 +43,82 @@ fn bare_curve(fastest: Ticks, power: Microwatts, count: usize) -> Curve
 }
 
 // Whether a saving of run i is below that of the run before it.
+#[tactic(auto, using(base::proofs::Tests::tests), unfolding(crate::specs::CurveFile::falls, curve::specs::Curve::saving_at, base::specs::Pick::pick))]
 fn is_below(c: Curve, i: usize, saving: u32) -> bool
     requires { i < 4 }
     ensures { result ≡ falls c i saving }
 {
-    if i == 0 {
-        return true;
-    }
-    let before = c.runs[i - 1];
-    saving < before.saving.0
+    i == 0 || saving < c.runs[i - 1].saving.0
 }
 
 // Run i of a curve.
-fn read_run(s: &[u8], i: usize, c: Curve, at: usize) -> CurveRead
+#[tactic(auto, unfolding(crate::specs::CurveFile::run_from, crate::specs::Parse::and_then, base::specs::Pick::pick))]
+fn read_run(s: &[u8], i: usize, c: Curve, at: usize) -> Answer<Read<Curve>>
     requires { i < 4 }
-    ensures { result ≡ curve_read (run_from s.now i c at) }
+    ensures { result ≡ run_from s.now i c at }
 {
-    match field(s, at, Curve::LENGTH_MIN, Curve::LENGTH_MAX) {
-        Read::Refused { why, place } => refused(why, place),
-        Read::Number {
-            value: length,
-            next: saving_at,
-        } => match field(s, saving_at, Curve::SAVING_MIN, Curve::SAVING_MAX) {
-            Read::Refused { why, place } => refused(why, place),
-            Read::Number {
-                value: saving,
-                next,
-            } => {
-                if !is_below(c, i, saving) {
-                    return refused(Why::SavingNotBelow, saving_at);
-                }
-                let mut more = c;
-                more.runs[i] = Run {
-                    length: Ticks(length),
-                    saving: Microwatts(saving),
-                };
-                CurveRead {
-                    answer: Answer::Done,
-                    next,
-                    curve: more,
-                }
-            }
-        },
+    let length = field(s, at, Curve::LENGTH_MIN, Curve::LENGTH_MAX)?;
+    let saving = field(s, length.next, Curve::SAVING_MIN, Curve::SAVING_MAX)?;
+    if !is_below(c, i, saving.value) {
+        return Err(Why::SavingNotBelow.at(length.next));
     }
+    let mut value = c;
+    value.runs[i] = Run {
+        length: Ticks(length.value),
+        saving: Microwatts(saving.value),
+    };
+    Ok(Read {
+        value,
+        next: saving.next,
+    })
 }
 
 // All runs of a curve.
-fn each_run(s: &[u8], c: Curve, at: usize) -> CurveRead
+#[tactic(auto, unfolding(crate::specs::Parse::repeat, crate::specs::Parse::and_then))]
+fn each_run(s: &[u8], c: Curve, at: usize) -> Answer<Read<Curve>>
     requires { c.count ≤ 4 }
-    ensures { result ≡ curve_read (repeat (run_from s.now) c at c.count) }
+    ensures { result ≡ repeat (run_from s.now) c at c.count }
 {
-    let count = c.count;
-    let mut so_far = c;
-    let mut next = at;
-    let mut i: usize = 0;
-    while i < count {
-        let r = read_run(s, i, so_far, next);
-        let a = r.answer;
-        let Answer::Done = a else {
-            return r;
-        };
-        so_far = r.curve;
-        next = r.next;
-        i = i + 1;
+    let mut so_far = Read { value: c, next: at };
+    for i in 0..c.count {
+        so_far = read_run(s, i, so_far.value, so_far.next)?;
     }
-    CurveRead {
-        answer: Answer::Done,
-        next,
-        curve: so_far,
-    }
+    Ok(so_far)
 }
 
 // Run count and runs of a curve whose power, read at `from`, must be enough for all savings.
-fn read_runs(s: &[u8], fastest: u32, power: u32, from: usize, at: usize) -> CurveRead
-    ensures { result ≡ curve_read (runs_from s.now fastest power from at) }
+#[tactic(auto, unfolding(crate::specs::CurveFile::runs_from, crate::specs::Parse::and_then, base::specs::Pick::pick))]
+fn read_runs(s: &[u8], fastest: u32, power: u32, from: usize, at: usize) -> Answer<Read<Curve>>
+    ensures { result ≡ runs_from s.now fastest power from at }
 {
-    match field(s, at, 0, 4) {
-        Read::Refused { why, place } => refused(why, place),
-        Read::Number { value: count, next } => {
-            let r = each_run(
-                s,
-                bare_curve(Ticks(fastest), Microwatts(power), count as usize),
-                next,
-            );
-            let a = r.answer;
-            let Answer::Done = a else {
-                return r;
-            };
-            let c = r.curve;
-            if !c.affords_savings() {
-                return refused(Why::PowerBelowSavings, from);
-            }
-            r
-        }
+    let count = field(s, at, 0, 4)?;
+    let bare = bare_curve(Ticks(fastest), Microwatts(power), count.value as usize);
+    let read = each_run(s, bare, count.next)?;
+    if !read.value.affords_savings() {
+        return Err(Why::PowerBelowSavings.at(from));
     }
+    Ok(read)
 }
 
 // The curve that stands at a place; any place may be asked for.
-pub fn read_curve(s: &[u8], at: usize) -> CurveRead
-    ensures { result ≡ curve_read (curve_from s.now at) }
+#[tactic(auto, unfolding(crate::specs::CurveFile::curve_from, crate::specs::Parse::and_then))]
+pub fn read_curve(s: &[u8], at: usize) -> Answer<Read<Curve>>
+    ensures { result ≡ curve_from s.now at }
 {
-    match field(s, at, Curve::FASTEST_MIN, Curve::FASTEST_MAX) {
-        Read::Refused { why, place } => refused(why, place),
-        Read::Number {
-            value: fastest,
-            next: power_at,
-        } => match field(s, power_at, 0, Curve::POWER_MAX) {
-            Read::Refused { why, place } => refused(why, place),
-            Read::Number { value: power, next } => { read_runs(s, fastest, power, power_at, next) }
-        },
-    }
+    let fastest = field(s, at, Curve::FASTEST_MIN, Curve::FASTEST_MAX)?;
+    let power = field(s, fastest.next, 0, Curve::POWER_MAX)?;
+    read_runs(s, fastest.value, power.value, fastest.next, power.next)
 }
 
 // A number of the same form. What reaches the limit has none.
 fn narrow(n: usize) -> u32
     ensures { encode result ≡ encode n }
 {
-    if groups::LIMIT as usize <= n {
-        return groups::LIMIT;
-    }
-    n as u32
+    n.min(groups::LIMIT as usize) as u32
 }
 
 // The bytes of a number's form; 0 for a number that has none.
+// Kept: (d) 0 is the length of no bytes, and it is added to other lengths: `size(c.fastest.0 as usize) + size(c.count)`.
 pub fn size(n: usize) -> usize
     ensures { (result ≡ length (encode n)) × (result ≤ groups) }
 {
@@ -210,27 +132,96 @@ pub fn put(buf: &mut [u8], at: usize, n: usize) -> usize
     groups::write_number(buf, at, narrow(n))
 }
 
-fn run_size(run: Run) -> usize
-    ensures { (result ≡ length (run_bytes run)) × (result ≤ 2 * groups) }
+// Writes two numbers in a row.
+pub fn put_pair(buf: &mut [u8], at: usize, first: usize, second: usize) -> usize
+    ensures { WroteIfRoom buf.old at (encode first ++ encode second) result buf.new }
 {
-    size(run.length.0 as usize) + size(run.saving.0 as usize)
+    let next = put(buf, at, first);
+    put(buf, next, second)
 }
 
-fn runs_size(c: Curve) -> usize
-    requires { c.count ≤ 4 }
-    ensures { (result ≡ length (runs_bytes c c.count)) × (result ≤ 8 * groups) }
+// What stands in a file in bytes of its own.
+pub trait Form {
+    ghost bytes: { Self → List ℕ };
+
+    // as many bytes as it can have
+    ghost most: { ℕ };
+
+    fn size(&self) -> usize
+        ensures { (result ≡ length (bytes self.now)) × (result ≤ most) };
+
+    fn write(&self, buf: &mut [u8], at: usize) -> usize
+        ensures { WroteIfRoom buf.old at (bytes self.now) result buf.new };
+}
+
+// Writes one at a place and hands back the place past it; without room it does nothing.
+// Kept: (d) as at `groups::write_number`: the next write begins at the place that is handed back.
+pub fn write_in_room<T: Form>(buf: &mut [u8], at: usize, x: &T) -> usize
+    ensures { WroteOrNothing buf.old at (T.bytes x.now) result buf.new }
 {
-    let count = c.count;
-    let mut bytes: usize = 0;
-    let mut i: usize = 0;
-    while i < count {
-        bytes = bytes + run_size(c.runs[i]);
-        i = i + 1;
+    let needed = x.size();
+    if buf.len() < needed {
+        return at;
+    }
+    if buf.len() - needed < at {
+        return at;
+    }
+    x.write(buf, at)
+}
+
+// The bytes of a row of them.
+pub fn row_size<T: Form>(row: &[T]) -> usize
+    requires { T.most * length row.now < 18446744073709551616 }
+    ensures { (result ≡ length (flat_map T.bytes row.now)) × (result ≤ T.most * length row.now) }
+{
+    let mut bytes = 0;
+    for x in row {
+        bytes += x.size();
     }
     bytes
 }
 
+// Writes a row of them, one after the other.
+pub fn write_row<T: Form>(buf: &mut [u8], at: usize, row: &[T]) -> usize
+    ensures { WroteIfRoom buf.old at (flat_map T.bytes row.now) result buf.new }
+{
+    let mut next = at;
+    for x in row {
+        next = x.write(buf, next);
+    }
+    next
+}
+
+impl Form for Run {
+    ghost bytes = { run_bytes };
+
+    ghost most = { 2 * groups };
+
+    fn size(&self) -> usize {
+        size(self.length.0 as usize) + size(self.saving.0 as usize)
+    }
+
+    fn write(&self, buf: &mut [u8], at: usize) -> usize {
+        put_pair(buf, at, self.length.0 as usize, self.saving.0 as usize)
+    }
+}
+
+impl Form for Link {
+    ghost bytes = { link_bytes };
+
+    ghost most = { 2 * groups };
+
+    fn size(&self) -> usize {
+        size(self.from) + size(self.to)
+    }
+
+    fn write(&self, buf: &mut [u8], at: usize) -> usize {
+        put_pair(buf, at, self.from, self.to)
+    }
+}
+
 // The bytes of a curve's form; 0 for a curve that has none.
+// Kept: (d) 0 is the length of no bytes, and it is added to other lengths: `size(part) + curve_size(curve)`.
 pub fn curve_size(c: Curve) -> usize
     ensures { (result ≡ length (curve_bytes c)) × (result ≤ 11 * groups) }
 {
@@ -238,28 +229,7 @@ pub fn curve_size(c: Curve) -> usize
         return 0;
     }
     let numbers = size(c.fastest.0 as usize) + size(c.power.0 as usize) + size(c.count);
-    numbers + runs_size(c)
-}
-
-fn write_run(buf: &mut [u8], at: usize, run: Run) -> usize
-    ensures { WroteIfRoom buf.old at (run_bytes run) result buf.new }
-{
-    let next = put(buf, at, run.length.0 as usize);
-    put(buf, next, run.saving.0 as usize)
-}
-
-fn write_runs(buf: &mut [u8], at: usize, c: Curve) -> usize
-    requires { c.count ≤ 4 }
-    ensures { WroteIfRoom buf.old at (runs_bytes c c.count) result buf.new }
-{
-    let count = c.count;
-    let mut next = at;
-    let mut i: usize = 0;
-    while i < count {
-        next = write_run(buf, next, c.runs[i]);
-        i = i + 1;
-    }
-    next
+    numbers + row_size(&c.runs[..c.count])
 }
 
 // A curve that has a form.
@@ -270,22 +240,29 @@ fn write_form(buf: &mut [u8], at: usize, c: Curve) -> usize
     let power_at = put(buf, at, c.fastest.0 as usize);
     let count_at = put(buf, power_at, c.power.0 as usize);
     let runs_at = put(buf, count_at, c.count);
-    write_runs(buf, runs_at, c)
+    write_row(buf, runs_at, &c.runs[..c.count])
 }
 
 // Writes a curve's form at a place and hands back the place past it; without a form or without room it does nothing.
 pub fn write_curve(buf: &mut [u8], at: usize, c: Curve) -> usize
     ensures { WroteOrNothing buf.old at (curve_bytes c) result buf.new }
 {
-    if Curve::RUNS_MAX < c.count {
-        return at;
+    write_in_room(buf, at, &c)
+}
+
+impl Form for Curve {
+    ghost bytes = { curve_bytes };
+
+    ghost most = { 11 * groups };
+
+    fn size(&self) -> usize {
+        curve_size(*self)
     }
-    let needed = curve_size(c);
-    if buf.len() < needed {
-        return at;
+
+    fn write(&self, buf: &mut [u8], at: usize) -> usize {
+        if Curve::RUNS_MAX < self.count {
+            return at;
+        }
+        write_form(buf, at, *self)
     }
-    if buf.len() - needed < at {
-        return at;
-    }
-    write_form(buf, at, c)
 }

@@ -1,6 +1,6 @@
 -- What one more group does to a reading, and that its sums stay below the limit: the ways through `read_number`.
 -- Assumes nothing.
-use mathlib.Core.Path.{◌≡◌, sym, ◌∙◌}
+use mathlib.Core.Path.{◌≡◌, sym, ap, ◌∙◌}
 use mathlib.Core.Bool.{Bool, true, false}
 use mathlib.Core.List.{List}
 use Prim.Native.Nat.{ℕ, zero, suc, ◌+◌, ◌-◌, ◌*◌, ◌%◌, ◌^◌, ◌<◌, ◌≤◌}
@@ -10,24 +10,26 @@ use mir.Val.{Fits}
 use mir.Syntax.{w32}
 use lib.ListN.{length, get_or}
 use borrow.Author.Tests.{lt-ltb, le-ltb}
+use Rattle.std.specs.Prelude.{Err}
 use Rattle.base.specs.Pick.{pick}
 use Rattle.refusal.specs.declared.Why.TheVariants.{CutShort, NotShortest}
-use Rattle.groups.specs.declared.Read.{Read}
-use Rattle.groups.specs.declared.Read.TheVariants.{Number, Refused}
+use Rattle.refusal.specs.declared.Refusal.{Refusal}
+use Rattle.refusal.specs.Refusal.{refusal_at, refused}
+use Rattle.groups.specs.Parse.{got}
 use Rattle.groups.specs.Number.{limit, shortest_end, groups_from, number_at}
 
 -- ---- the four ways that a group can go
 module _ (left : ℕ) (s : List ℕ) (first at scale sum : ℕ) where
-  pub input_ends : length s ≤ at → groups_from (suc left) s first at scale sum ≡ Refused CutShort (length s)
+  pub input_ends : length s ≤ at → groups_from (suc left) s first at scale sum ≡ refused CutShort (length s)
   unfolding groups_from pick
   input_ends ends = rw (le-ltb _ _ ends)
 
   module _ (more : at < length s) where
-    pub number_ends : get_or s at 0 < 128 → shortest_end first at (get_or s at 0) ≡ true → groups_from (suc left) s first at scale sum ≡ Number (sum + get_or s at 0 % 128 * scale) (at + 1)
+    pub number_ends : get_or s at 0 < 128 → shortest_end first at (get_or s at 0) ≡ true → groups_from (suc left) s first at scale sum ≡ got (sum + get_or s at 0 % 128 * scale) (at + 1)
     unfolding groups_from pick
     number_ends last short = rw (lt-ltb _ _ more, lt-ltb _ _ last, short)
 
-    pub longer_than_needed : get_or s at 0 < 128 → shortest_end first at (get_or s at 0) ≡ false → groups_from (suc left) s first at scale sum ≡ Refused NotShortest first
+    pub longer_than_needed : get_or s at 0 < 128 → shortest_end first at (get_or s at 0) ≡ false → groups_from (suc left) s first at scale sum ≡ refused NotShortest first
     unfolding groups_from pick
     longer_than_needed last long = rw (lt-ltb _ _ more, lt-ltb _ _ last, long)
 
@@ -44,23 +46,23 @@ module _ (s : List ℕ) (first at scale sum left : ℕ) (is : groups_from left s
   head : groups_from (suc (left - 1)) s first at scale sum ≡ number_at s first
   head = rw (one_more left some) at is
 
-  pub cut_short : (r : Read) → r ≡ Refused CutShort (length s) → length s ≤ at → r ≡ number_at s first
-  cut_short r is_refused ends = is_refused ∙ sym (input_ends (left - 1) s first at scale sum ends) ∙ head
+  pub cut_short : (e : Refusal) → e ≡ refusal_at CutShort (length s) → length s ≤ at → Err e ≡ number_at s first
+  cut_short e is_refused ends = ap Err is_refused ∙ sym (input_ends (left - 1) s first at scale sum ends) ∙ head
 
   module _ (more : at < length s) where
-    pub not_shortest : (r : Read) (t : Bool) → r ≡ Refused NotShortest first → get_or s at 0 < 128 → t ≡ shortest_end first at (get_or s at 0) → t ≡ false → r ≡ number_at s first
-    not_shortest r t is_refused last test long = is_refused ∙ sym (longer_than_needed (left - 1) s first at scale sum more last (sym test ∙ long)) ∙ head
+    pub not_shortest : (e : Refusal) (t : Bool) → e ≡ refusal_at NotShortest first → get_or s at 0 < 128 → t ≡ shortest_end first at (get_or s at 0) → t ≡ false → Err e ≡ number_at s first
+    not_shortest e t is_refused last test long = ap Err is_refused ∙ sym (longer_than_needed (left - 1) s first at scale sum more last (sym test ∙ long)) ∙ head
 
-    pub number_read : (r : Bool) (h : ℕ) → get_or s at 0 < 128 → r ≡ shortest_end first at (get_or s at 0) → r ≡ true → h ≡ get_or s at 0 % 128 → Number (sum + h * scale) (at + 1) ≡ number_at s first
+    pub number_read : (r : Bool) (h : ℕ) → get_or s at 0 < 128 → r ≡ shortest_end first at (get_or s at 0) → r ≡ true → h ≡ get_or s at 0 % 128 → got (sum + h * scale) (at + 1) ≡ number_at s first
     number_read r h last test short bits = rw bits (sym (number_ends (left - 1) s first at scale sum more last (sym test ∙ short)) ∙ head)
 
     pub group_read : (h : ℕ) → 128 ≤ get_or s at 0 → h ≡ get_or s at 0 % 128 → groups_from (left - 1) s first (at + 1) (scale * 128) (sum + h * scale) ≡ number_at s first
     group_read h on bits = rw bits (sym (goes_on (left - 1) s first at scale sum more on) ∙ head)
 
-pub groups_spent : (s : List ℕ) (first at scale sum left : ℕ) (r : Read) → r ≡ Refused NotShortest first → groups_from left s first at scale sum ≡ number_at s first → left ≤ 0 → r ≡ number_at s first
+pub groups_spent : (s : List ℕ) (first at scale sum left : ℕ) (e : Refusal) → e ≡ refusal_at NotShortest first → groups_from left s first at scale sum ≡ number_at s first → left ≤ 0 → Err e ≡ number_at s first
 unfolding groups_from
-groups_spent s first at scale sum zero r is_refused is none = is_refused ∙ is
-groups_spent s first at scale sum (suc left) r is_refused is none = absurd (omega arith)
+groups_spent s first at scale sum zero e is_refused is none = ap Err is_refused ∙ is
+groups_spent s first at scale sum (suc left) e is_refused is none = absurd (omega arith)
 
 -- ---- the sums stay below the limit, while a group may come that is worth `scale` a unit and what came before is worth less than one
 pub scale_next : (scale left : ℕ) → 0 < left → scale * 128 ^ left ≤ limit → scale * 128 * 128 ^ (left - 1) ≤ limit

@@ -14,10 +14,11 @@ use lib.Dec.{ltb}
 use borrow.Author.Tests.{lt-ltb, le-ltb, eq-eqb, ne_eqb}
 use Rattle.base.specs.Pick.{pick}
 use Rattle.base.proofs.Cases.{lt_or_le, eq_or_ne}
+use Rattle.std.specs.Prelude.{Ok, Err}
 use Rattle.refusal.specs.declared.Why.{Why}
 use Rattle.refusal.specs.declared.Why.TheVariants.{CutShort, NotShortest}
-use Rattle.groups.specs.declared.Read.{Read}
-use Rattle.groups.specs.declared.Read.TheVariants.{Number, Refused}
+use Rattle.refusal.specs.Refusal.{refused}
+use Rattle.groups.specs.Parse.{Parse, got}
 use Rattle.groups.specs.Number.{groups, shortest_end, groups_from, number_at}
 use Rattle.groups.proofs.Groups.{input_ends, number_ends, longer_than_needed, goes_on}
 
@@ -41,9 +42,9 @@ by_group s first at Q ends last longer on = ⊎_elim
     (lt_or_le at (length s))
 
 -- ---- where a refusal's place is
-unfoldable pub Placed : List ℕ → ℕ → Read → Type 0
-Placed s first (Number v n) = Unit {0}
-Placed s first (Refused w p) = ((w ≡ CutShort) × (p ≡ length s)) ⊎ ((w ≡ NotShortest) × (p ≡ first))
+unfoldable pub Placed : List ℕ → ℕ → Parse ℕ → Type 0
+Placed s first (Ok r) = Unit {0}
+Placed s first (Err e) = ((e.why ≡ CutShort) × (e.place ≡ length s)) ⊎ ((e.why ≡ NotShortest) × (e.place ≡ first))
 
 groups_placed : (left : ℕ) (s : List ℕ) (first at scale sum : ℕ) → Placed s first (groups_from left s first at scale sum)
 unfolding Placed groups_from
@@ -56,32 +57,32 @@ groups_placed (suc left) s first at scale sum = by_group
     (λ more on. rw (goes_on left s first at scale sum more on) (groups_placed left s first (at + 1) (scale * 128) (sum + get_or s at 0 % 128 * scale)))
 
 -- 01, What is refused, 1: "input length"; 2: "number's first byte"
-pub refused_place : (s : List ℕ) (at : ℕ) (w : Why) (p : ℕ) → number_at s at ≡ Refused w p → ((w ≡ CutShort) × (p ≡ length s)) ⊎ ((w ≡ NotShortest) × (p ≡ at))
+pub refused_place : (s : List ℕ) (at : ℕ) (w : Why) (p : ℕ) → number_at s at ≡ refused w p → ((w ≡ CutShort) × (p ≡ length s)) ⊎ ((w ≡ NotShortest) × (p ≡ at))
 unfolding number_at Placed
 refused_place s at w p is = rw is at (groups_placed groups s at at 1 0)
 
 -- where the bytes are used up, nothing is left of a number
-pub nothing_left : (s : List ℕ) (at : ℕ) → length s ≤ at → number_at s at ≡ Refused CutShort (length s)
+pub nothing_left : (s : List ℕ) (at : ℕ) → length s ≤ at → number_at s at ≡ refused CutShort (length s)
 unfolding number_at
 nothing_left s at ends = input_ends (groups - 1) s at at 1 0 ends
 
-pub place_le : (s : List ℕ) (at : ℕ) (w : Why) (p : ℕ) → at ≤ length s → number_at s at ≡ Refused w p → p ≤ length s
+pub place_le : (s : List ℕ) (at : ℕ) (w : Why) (p : ℕ) → at ≤ length s → number_at s at ≡ refused w p → p ≤ length s
 place_le s at w p within is = ⊎_elim (λ cut. omega (arith, cut.1)) (λ long. omega (arith, long.1)) (refused_place s at w p is)
 
 -- ---- reading goes by the bytes from its place on: what stands before them only moves the places
-unfoldable pub moved : ℕ → Read → Read
-moved k (Number v n) = Number v (k + n)
-moved k (Refused w p) = Refused w (k + p)
+unfoldable pub moved : ℕ → Parse ℕ → Parse ℕ
+moved k (Ok r) = got r.value (k + r.next)
+moved k (Err e) = refused e.why (k + e.place)
 
-moved_number : (k v n : ℕ) → moved k (Number v n) ≡ Number v (k + n)
+moved_number : (k v n : ℕ) → moved k (got v n) ≡ got v (k + n)
 unfolding moved
 moved_number k v n = refl
 
-moved_refused : (k : ℕ) (w : Why) (p : ℕ) → moved k (Refused w p) ≡ Refused w (k + p)
+moved_refused : (k : ℕ) (w : Why) (p : ℕ) → moved k (refused w p) ≡ refused w (k + p)
 unfolding moved
 moved_refused k w p = refl
 
-moved_pick : (k : ℕ) (t : Bool) (a b : Read) → moved k (pick t a b) ≡ pick t (moved k a) (moved k b)
+moved_pick : (k : ℕ) (t : Bool) (a b : Parse ℕ) → moved k (pick t a b) ≡ pick t (moved k a) (moved k b)
 unfolding pick
 moved_pick k true a b = refl
 moved_pick k false a b = refl
@@ -114,22 +115,22 @@ longer : (s post : List ℕ) (at : ℕ) → at < length s → at < length (s ++ 
 longer s post at more = rw length-append (omega arith)
 
 -- a number that was read stays the same if more bytes follow
-groups_kept : (left : ℕ) (s post : List ℕ) (first at scale sum v n : ℕ) → groups_from left s first at scale sum ≡ Number v n → groups_from left (s ++ post) first at scale sum ≡ Number v n
+groups_kept : (left : ℕ) (s post : List ℕ) (first at scale sum v n : ℕ) → groups_from left s first at scale sum ≡ got v n → groups_from left (s ++ post) first at scale sum ≡ got v n
 unfolding groups_from
 groups_kept zero s post first at scale sum v n is = is
 groups_kept (suc left) s post first at scale sum v n is = by_group
-    s first at (groups_from (suc left) (s ++ post) first at scale sum ≡ Number v n)
-    (λ ends. let never : Refused CutShort (length s) ≡ Number v n = sym (input_ends left s first at scale sum ends) ∙ is in let z : ◌≡◌ {A = ℕ} 0 1 = cc in absurd (omega arith))
+    s first at (groups_from (suc left) (s ++ post) first at scale sum ≡ got v n)
+    (λ ends. let never : refused CutShort (length s) ≡ got v n = sym (input_ends left s first at scale sum ends) ∙ is in let z : ◌≡◌ {A = ℕ} 0 1 = cc in absurd (omega arith))
     (λ more last short.
     let byte : get_or (s ++ post) at 0 ≡ get_or s at 0 = get_or-append s post 0 at more in
-    let found : Number (sum + get_or s at 0 % 128 * scale) (at + 1) ≡ Number v n = sym (number_ends left s first at scale sum more last short) ∙ is in
+    let found : got (sum + get_or s at 0 % 128 * scale) (at + 1) ≡ got v n = sym (number_ends left s first at scale sum more last short) ∙ is in
     number_ends left (s ++ post) first at scale sum (longer s post at more) (rw byte last) (rw byte short) ∙ rw byte found)
-    (λ more last long. let never : Refused NotShortest first ≡ Number v n = sym (longer_than_needed left s first at scale sum more last long) ∙ is in let z : ◌≡◌ {A = ℕ} 0 1 = cc in absurd (omega arith))
+    (λ more last long. let never : refused NotShortest first ≡ got v n = sym (longer_than_needed left s first at scale sum more last long) ∙ is in let z : ◌≡◌ {A = ℕ} 0 1 = cc in absurd (omega arith))
     (λ more on.
     let byte : get_or (s ++ post) at 0 ≡ get_or s at 0 = get_or-append s post 0 at more in
-    let rest : groups_from left s first (at + 1) (scale * 128) (sum + get_or s at 0 % 128 * scale) ≡ Number v n = sym (goes_on left s first at scale sum more on) ∙ is in
+    let rest : groups_from left s first (at + 1) (scale * 128) (sum + get_or s at 0 % 128 * scale) ≡ got v n = sym (goes_on left s first at scale sum more on) ∙ is in
     goes_on left (s ++ post) first at scale sum (longer s post at more) (rw byte on) ∙ rw byte (groups_kept left s post first (at + 1) (scale * 128) (sum + get_or s at 0 % 128 * scale) v n rest))
 
-pub number_kept : (s post : List ℕ) (at v n : ℕ) → number_at s at ≡ Number v n → number_at (s ++ post) at ≡ Number v n
+pub number_kept : (s post : List ℕ) (at v n : ℕ) → number_at s at ≡ got v n → number_at (s ++ post) at ≡ got v n
 unfolding number_at
 number_kept s post at v n is = groups_kept groups s post at at 1 0 v n is

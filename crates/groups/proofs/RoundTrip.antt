@@ -15,7 +15,9 @@ use borrow.Author.Tests.{ltb-true, lt-ltb, eq-eqb, ne_eqb}
 use Rattle.base.specs.Pick.{pick}
 use Rattle.base.proofs.Cases.{lt_or_le, eq_or_ne}
 use Rattle.refusal.specs.declared.Why.TheVariants.{CutShort, NotShortest}
-use Rattle.groups.specs.declared.Read.TheVariants.{Number, Refused}
+use Rattle.refusal.specs.Refusal.{refused}
+use Rattle.groups.specs.declared.Read.{Read}
+use Rattle.groups.specs.Parse.{got}
 use Rattle.groups.specs.Number.{groups, limit, shortest_end, groups_from, number_at, encode_in, encode}
 use Rattle.groups.proofs.Groups.{input_ends, number_ends, longer_than_needed, goes_on}
 use Rattle.groups.proofs.Forms.{in_last, in_more, rest_less, one_left, encode_is}
@@ -41,7 +43,7 @@ short_end first at g only = ⊎_elim
     (λ (other : at ≡ first → ⊥). rw (ne_eqb _ _ other, lt-ltb 0 g (⊎_elim (λ (some : 0 < g). some) (λ (none : g ≤ 0). absurd (other (only (omega arith)))) (lt_or_le 0 g))))
     (eq_or_ne at first)
 
-groups_read_back : (left : ℕ) (s post : List ℕ) (n first at scale sum : ℕ) → 0 < left → n < 128 ^ left → (n ≡ 0 → at ≡ first) → drop at s ≡ encode_in left n ++ post → groups_from left s first at scale sum ≡ Number (sum + n * scale) (at + length (encode_in left n))
+groups_read_back : (left : ℕ) (s post : List ℕ) (n first at scale sum : ℕ) → 0 < left → n < 128 ^ left → (n ≡ 0 → at ≡ first) → drop at s ≡ encode_in left n ++ post → groups_from left s first at scale sum ≡ got (sum + n * scale) (at + length (encode_in left n))
 groups_read_back zero s post n first at scale sum some less only stands = absurd (omega arith)
 groups_read_back (suc left) s post n first at scale sum some less only stands = ⊎_elim
     (λ (small : n < 128).
@@ -53,7 +55,7 @@ groups_read_back (suc left) s post n first at scale sum some less only stands = 
     let here : drop at s ≡ (n % 128 + 128) ∷ (encode_in left (n / 128) ++ post) = rw (in_more left n large) at stands in
     let byte : get_or s at 0 ≡ n % 128 + 128 = byte_is s (encode_in left (n / 128) ++ post) at (n % 128 + 128) here in
     let bits : get_or s at 0 % 128 ≡ n % 128 = rw byte (omega arith) in
-    let rest : groups_from left s first (at + 1) (scale * 128) (sum + n % 128 * scale) ≡ Number (sum + n % 128 * scale + n / 128 * (scale * 128)) (at + 1 + length (encode_in left (n / 128))) =
+    let rest : groups_from left s first (at + 1) (scale * 128) (sum + n % 128 * scale) ≡ got (sum + n % 128 * scale + n / 128 * (scale * 128)) (at + 1 + length (encode_in left (n / 128))) =
     groups_read_back left s post (n / 128) first (at + 1) (scale * 128) (sum + n % 128 * scale) (one_left left n large less) (rest_less left n less) (λ (none : n / 128 ≡ 0). absurd (omega arith)) (byte_rest s (encode_in left (n / 128) ++ post) at (n % 128 + 128) here) in
     let worth : sum + n % 128 * scale + n / 128 * (scale * 128) ≡ sum + n * scale = omega (arith, ap (λ (m : ℕ). m * scale) (div-add-mod' n 128)) in
     let ends : at + 1 + length (encode_in left (n / 128)) ≡ at + length (encode_in (suc left) n) = rw (in_more left n large) (omega arith) in
@@ -61,14 +63,14 @@ groups_read_back (suc left) s post n first at scale sum some less only stands = 
     (lt_or_le n 128)
 
 -- the form of a number is read as that number, wherever it stands
-pub reads_at : (s post : List ℕ) (at n : ℕ) → n < limit → drop at s ≡ encode n ++ post → number_at s at ≡ Number n (at + length (encode n))
+pub reads_at : (s post : List ℕ) (at n : ℕ) → n < limit → drop at s ≡ encode n ++ post → number_at s at ≡ got n (at + length (encode n))
 unfolding number_at
 reads_at s post at n less stands =
     let stands' : drop at s ≡ encode_in groups n ++ post = rw (encode_is n less) at stands in
     let worth : 0 + n * 1 ≡ n = omega arith in
-    rw (encode_is n less) (groups_read_back groups s post n at at 1 0 (omega arith) less (λ (none : n ≡ 0). refl) stands' ∙ ap (λ (v : ℕ). Number v (at + length (encode_in groups n))) worth)
+    rw (encode_is n less) (groups_read_back groups s post n at at 1 0 (omega arith) less (λ (none : n ≡ 0). refl) stands' ∙ ap (λ (v : ℕ). got v (at + length (encode_in groups n))) worth)
 
-pub reads_back : (pre post : List ℕ) (n : ℕ) → n < limit → number_at (pre ++ (encode n ++ post)) (length pre) ≡ Number n (length pre + length (encode n))
+pub reads_back : (pre post : List ℕ) (n : ℕ) → n < limit → number_at (pre ++ (encode n ++ post)) (length pre) ≡ got n (length pre + length (encode n))
 reads_back pre post n less = reads_at (pre ++ (encode n ++ post)) post (length pre) n less (drop-append_seam pre (encode n ++ post))
 
 -- ---- what is read is rewritten byte for byte
@@ -101,10 +103,11 @@ take_byte s at n above more =
     rw (one_more, drop-cons s at 0 more, add-one)
 
 module _ (left : ℕ) (s : List ℕ) (first at scale sum v n : ℕ) where
-  last_form : at < length s → get_or s at 0 < 128 → shortest_end first at (get_or s at 0) ≡ true → Number (sum + get_or s at 0 % 128 * scale) (at + 1) ≡ Number v n → Form (suc left) s first at scale sum v n
+  last_form : at < length s → get_or s at 0 < 128 → shortest_end first at (get_or s at 0) ≡ true → got (sum + get_or s at 0 % 128 * scale) (at + 1) ≡ got v n → Form (suc left) s first at scale sum v n
   last_form more last short is =
-      let value : sum + get_or s at 0 % 128 * scale ≡ v = cc in
-      let next : at + 1 ≡ n = cc in
+      let same : ◌≡◌ {A = Read ℕ} (record { value = sum + get_or s at 0 % 128 * scale; next = at + 1 }) (record { value = v; next = n }) = cc in
+      let value : sum + get_or s at 0 % 128 * scale ≡ v = ap (λ (r : Read ℕ). r.value) same in
+      let next : at + 1 ≡ n = ap (λ (r : Read ℕ). r.next) same in
       let none : n - (at + 1) ≡ 0 = omega arith in
       record {
         worth = get_or s at 0;
@@ -135,25 +138,25 @@ module _ (left : ℕ) (s : List ℕ) (first at scale sum v n : ℕ) where
             take_byte s at n (omega (arith, rest.above)) more ∙ rw (rest.bytes all, in_more left (g % 128 + w * 128) (omega arith), low, high);
       }
 
-groups_form : (left : ℕ) (s : List ℕ) (first at scale sum v n : ℕ) → first ≤ at → groups_from left s first at scale sum ≡ Number v n → Form left s first at scale sum v n
+groups_form : (left : ℕ) (s : List ℕ) (first at scale sum v n : ℕ) → first ≤ at → groups_from left s first at scale sum ≡ got v n → Form left s first at scale sum v n
 unfolding groups_from
 groups_form zero s first at scale sum v n from is = let z : ◌≡◌ {A = ℕ} 0 1 = cc in absurd (omega arith)
 groups_form (suc left) s first at scale sum v n from is = by_group
     s first at (Form (suc left) s first at scale sum v n)
-    (λ ends. let never : Refused CutShort (length s) ≡ Number v n = sym (input_ends left s first at scale sum ends) ∙ is in let z : ◌≡◌ {A = ℕ} 0 1 = cc in absurd (omega arith))
+    (λ ends. let never : refused CutShort (length s) ≡ got v n = sym (input_ends left s first at scale sum ends) ∙ is in let z : ◌≡◌ {A = ℕ} 0 1 = cc in absurd (omega arith))
     (λ more last short. last_form left s first at scale sum v n more last short (sym (number_ends left s first at scale sum more last short) ∙ is))
-    (λ more last long. let never : Refused NotShortest first ≡ Number v n = sym (longer_than_needed left s first at scale sum more last long) ∙ is in let z : ◌≡◌ {A = ℕ} 0 1 = cc in absurd (omega arith))
+    (λ more last long. let never : refused NotShortest first ≡ got v n = sym (longer_than_needed left s first at scale sum more last long) ∙ is in let z : ◌≡◌ {A = ℕ} 0 1 = cc in absurd (omega arith))
     (λ more on. more_form left s first at scale sum v n from more on (groups_form left s first (at + 1) (scale * 128) (sum + get_or s at 0 % 128 * scale) v n (omega arith) (sym (goes_on left s first at scale sum more on) ∙ is)))
 
 -- a number that was read: it ends past its place and within the bytes, and is below the limit
-pub number_next : (s : List ℕ) (at v n : ℕ) → number_at s at ≡ Number v n → (at < n) × (n ≤ length s) × (v < limit)
+pub number_next : (s : List ℕ) (at v n : ℕ) → number_at s at ≡ got v n → (at < n) × (n ≤ length s) × (v < limit)
 unfolding number_at
 number_next s at v n is =
     let found = groups_form groups s at at 1 0 v n (omega arith) is in
     (found.above, found.within, omega (arith, found.value, found.less))
 
 -- its bytes are its form
-pub writes_back : (s : List ℕ) (at v n : ℕ) → Bytes s → number_at s at ≡ Number v n → take (n - at) (drop at s) ≡ encode v
+pub writes_back : (s : List ℕ) (at v n : ℕ) → Bytes s → number_at s at ≡ got v n → take (n - at) (drop at s) ≡ encode v
 unfolding number_at
 writes_back s at v n all is =
     let found = groups_form groups s at at 1 0 v n (omega arith) is in
@@ -161,17 +164,17 @@ writes_back s at v n all is =
     found.bytes all ∙ rw same (sym (encode_is v (number_next s at v n is).2))
 
 -- "shortest form only": two accepted forms of one number are the same bytes
-pub one_form : (s t : List ℕ) (a b v m n : ℕ) → Bytes s → Bytes t → number_at s a ≡ Number v m → number_at t b ≡ Number v n → take (m - a) (drop a s) ≡ take (n - b) (drop b t)
+pub one_form : (s t : List ℕ) (a b v m n : ℕ) → Bytes s → Bytes t → number_at s a ≡ got v m → number_at t b ≡ got v n → take (m - a) (drop a s) ≡ take (n - b) (drop b t)
 one_form s t a b v m n bytes-s bytes-t read-s read-t = writes_back s a v m bytes-s read-s ∙ sym (writes_back t b v n bytes-t read-t)
 
 -- a number takes as many bytes as its form
-pub number_ends_at : (s : List ℕ) (at v n : ℕ) → Bytes s → number_at s at ≡ Number v n → n ≡ at + length (encode v)
+pub number_ends_at : (s : List ℕ) (at v n : ℕ) → Bytes s → number_at s at ≡ got v n → n ≡ at + length (encode v)
 number_ends_at s at v n all is =
     let known = number_next s at v n is in
     let long : length (take (n - at) (drop at s)) ≡ length (encode v) = ap length (writes_back s at v n all is) in
     omega (arith, known.0, known.1, rw (length-take-le (n - at) (drop at s) (rw length-drop (omega arith))) at long)
 
 -- ---- 01, Boards to try, case (11): "`80 01` is 128; `80 00` is refusal 2"
-pub case_11 : (number_at (128 ∷ 1 ∷ []) 0 ≡ Number 128 2) × (number_at (128 ∷ 0 ∷ []) 0 ≡ Refused NotShortest 0)
+pub case_11 : (number_at (128 ∷ 1 ∷ []) 0 ≡ got 128 2) × (number_at (128 ∷ 0 ∷ []) 0 ≡ refused NotShortest 0)
 unfolding number_at groups_from shortest_end pick
 case_11 = (refl, refl)

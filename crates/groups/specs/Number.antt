@@ -6,9 +6,8 @@
 use Rattle.std.specs.Prelude.{ℕ, zero, suc, ◌+◌, ◌*◌, ◌/◌, ◌%◌, ◌^◌, List, [], ◌∷◌, length, get_or, Bool, true, ltb, leb, eqb}
 use Rattle.std.proofs.lemmas.List.Edits.{sets}
 use Rattle.base.specs.Pick.{pick}
-use Rattle.refusal.specs.Refusal.{by}
-use Rattle.groups.specs.declared.Read.{Read}
-use Rattle.groups.specs.declared.Read.TheVariants.{Number, Refused}
+use Rattle.refusal.specs.Refusal.{refusal}
+use Rattle.groups.specs.Parse.{Parse, got}
 
 -- 02, Req 02: "a number may have four groups"
 abbrev pub groups : ℕ
@@ -24,19 +23,19 @@ shortest_end first at g = pick (eqb at first) true (ltb 0 g)
 
 -- With the bytes s, of a number that begins at `first`: `left` groups may still come, the next at `at`; a unit of it is worth `scale`,
 -- and the groups before it are worth `sum`.
-unfoldable pub groups_from : ℕ → List ℕ → ℕ → ℕ → ℕ → ℕ → Read
-groups_from zero s first at scale sum = Refused (by 2) first  -- the last group allowed promised another
+unfoldable pub groups_from : ℕ → List ℕ → ℕ → ℕ → ℕ → ℕ → Parse ℕ
+groups_from zero s first at scale sum = refusal 2 first  -- the last group allowed promised another
 groups_from (suc left) s first at scale sum =
     let g = get_or s at 0 in
     let sum' = sum + g % 128 * scale in
     pick (ltb at (length s))
     (pick (ltb g 128)
-    (pick (shortest_end first at g) (Number sum' (at + 1)) (Refused (by 2) first))
+    (pick (shortest_end first at g) (got sum' (at + 1)) (refusal 2 first))
     (groups_from left s first (at + 1) (scale * 128) sum'))
-    (Refused (by 1) (length s))  -- the input ends within the number
+    (refusal 1 (length s))  -- the input ends within the number
 
 -- the number at a place of the bytes s
-unfoldable pub number_at : List ℕ → ℕ → Read
+unfoldable pub number_at : List ℕ → ℕ → Parse ℕ
 number_at s at = groups_from groups s at at 1 0
 
 -- the form of a number in at most `left` groups

@@ -27,7 +27,7 @@ pub extern "C" fn boddivarn_orders(file: &[u8], orders: &[u8]) -> u64
     hosted::boddivarn_orders(file, orders)
 }
 
-// Advice on a network that is laid as `layout` says. Nothing is promised of it.
+// Advice on the network that a sheet holds, laid as `hosted` says. Nothing is promised of it.
 #[unsafe(no_mangle)]
 pub extern "C" fn boddivarn_advise(
     net: &[u32; 2048],

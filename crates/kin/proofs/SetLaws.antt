@@ -4,11 +4,11 @@ use mathlib.Core.Path.{◌≡◌, sym, ◌∙◌}
 use mathlib.Core.Logic.{⊎_elim}
 use Prim.Native.Nat.{ℕ, ◌-◌, ◌^◌, ◌<◌}
 use native.Mathlib.Omega.{arith}
-use lib.Count.{ones}
+use lib.Count.{ones, count_trailing_zeros}
 use Rattle.base.proofs.Cases.{eq_or_ne}
-use Rattle.marks.specs.Marks.{bit, one_of, without_of, lowest_of}
+use Rattle.marks.specs.Marks.{bit, one_of, without_of}
 use Rattle.marks.proofs.Bits.{bit_lt, bit_none, bit_or_not, bit_one_other, bit_without, without_fits, same_marks}
-use Rattle.marks.proofs.Counts.{ones_less, lowest_is}
+use Rattle.marks.proofs.Counts.{ones_less, lowest_is, lowest_some}
 use Rattle.kin.specs.Kin.{Within}
 
 -- nothing is in the set 0, and p alone in the set of p
@@ -23,8 +23,8 @@ pub within_more : (a b : ℕ) → a < 2 ^ 64 → b < 2 ^ 64 → Within a b → (
 within_more a b fa fb in_b ne =
     let rest = without_of b a in
     let some : rest ≡ 0 → ⊥ = λ e. ne (same_marks b a fb fa (λ n h. ⊎_elim (λ g. g) (λ g. absurd (none_in n (rw (← e) (bit_without b a n ∙ omega arith)))) (bit_or_not a n)) in_b) in
-    let m = lowest_of rest in
-    let lacks : bit b m - bit a m ≡ 1 = sym (bit_without b a m) ∙ lowest_is rest some (without_fits b a fb fa) in
+    let m = count_trailing_zeros 64 rest in
+    let lacks : bit b m - bit a m ≡ 1 = sym (bit_without b a m) ∙ lowest_is rest m (lowest_some rest some) (without_fits b a fb fa) in
     ones_less a b m fa
     (λ n. ⊎_elim (λ h. omega (arith, in_b n h)) (λ h. omega (arith, h)) (bit_or_not a n))
     (omega (arith, lacks, bit_lt b m))

@@ -1,10 +1,10 @@
 -- The rows and sets as they are computed. `Critical.antt` and `Kin.antt` say what they mean, and the laws in `proofs/` that they mean it.
 -- Assumes nothing.
-use Rattle.std.specs.Prelude.{◌≡◌, Bool, List, ℕ, zero, suc, ◌+◌, ◌-◌, ◌^◌, ◌<◌, ltb, get_or, set, replicate}
+use Rattle.std.specs.Prelude.{◌≡◌, List, ℕ, zero, suc, ◌+◌, ◌-◌, ◌^◌, ◌<◌, get_or, set}
 use Rattle.std.specs.Int.Count.{ones}
 use Rattle.base.specs.Pick.{pick}
-use Rattle.marks.specs.Marks.{bit, has_of, union_of, insert_of}
-use Rattle.board.specs.declared.Link.{Link}
+use Rattle.marks.specs.Marks.{bit, has_of, union_of}
+use Rattle.marks.specs.Rows.{marks_up_to}
 use Rattle.board.specs.declared.Board.{Board}
 use Rattle.budget.specs.declared.Budget.{Budget}
 use Rattle.board.specs.Board.{link_at}
@@ -14,24 +14,6 @@ use Rattle.kin.specs.Critical.{criticalb}
 use Rattle.kin.specs.Kin.{Within}
 
 -- ---- rows of marks
-unfoldable pub no_marks : List ℕ
-no_marks = replicate 64 0
-
-unfoldable pub no_rows_of : Rows
-no_rows_of = record { down = no_marks; up = no_marks }
-
--- row p gets mark q, if it is to be added
-unfoldable pub marked_of : List ℕ → Bool → ℕ → ℕ → List ℕ
-marked_of rows add p q = pick add (pick (ltb p 64) (set rows p (insert_of (get_or rows p 0) q)) rows) rows
-
-unfoldable pub with_link_of : Rows → Bool → Link → Rows
-with_link_of t add l = record { down = marked_of t.down add l.from l.to; up = marked_of t.up add l.to l.from }
-
--- row `from l` has mark `to l` for each l < k that passes the test
-unfoldable pub marks_up_to : (ℕ → Bool) → (ℕ → ℕ) → (ℕ → ℕ) → ℕ → List ℕ
-marks_up_to test from to zero = no_marks
-marks_up_to test from to (suc k) = marked_of (marks_up_to test from to k) (test k) (from k) (to k)
-
 -- by the first k links
 unfoldable pub rows_up_to : Board → Budget → ℕ → Rows
 rows_up_to b held k = record {

@@ -4,10 +4,9 @@
 ghost use Rattle.std.specs.Prelude.{◌≡◌};
 ghost use Rattle.kin.specs.Critical.{criticalb, critical_at, Critical, CriticalRows};
 ghost use Rattle.kin.specs.Kin.{KinOf};
-ghost use Rattle.kin.specs.Steps.{no_marks, no_rows_of, marked_of, with_link_of, joined_of, gathered_of, Led, Grown};
+ghost use Rattle.kin.specs.Steps.{joined_of, gathered_of, Led, Grown};
 
-use base::lesser;
-use board::{Board, Link};
+use board::{Board, Link, link_delay};
 use budget::Budget;
 
 // The critical links as marks: bit q of `down[p]` and bit p of `up[q]` where one leads from p to q.
@@ -23,9 +22,9 @@ pub struct Kin {
     pub children: u64,
 }
 
-// Whether a link is critical. The difference is compared with the link's ticks, so no sum can overflow.
-fn critical(held: Budget, l: Link) -> bool
-    ensures { result ≡ criticalb held l }
+// Whether a link is critical.
+fn critical(held: &Budget, l: Link) -> bool
+    ensures { result ≡ criticalb held.now l }
 {
     let p = l.from;
     let q = l.to;
@@ -37,81 +36,35 @@ fn critical(held: Budget, l: Link) -> bool
     }
     let e = held.end[p];
     let s = held.start[q];
-    if s.0 < e.0 {
-        return false;
-    }
-    let delay = board::link_delay(l);
-    s.0 - e.0 == delay.0
+    e.reach(link_delay(l), s)
 }
 
 // Whether link l of the board is critical; false where the board has no link l.
 pub fn link_is_critical(b: Board, held: Budget, l: usize) -> bool
     ensures { result ≡ critical_at b held l }
 {
-    let n = lesser(b.links, 256);
+    let n = b.links.min(256);
     if n <= l {
         return false;
     }
-    critical(held, b.link[l])
-}
-
-fn no_marks() -> [u64; 64]
-    ensures { result ≡ no_marks }
-{
-    [0u64; 64]
-}
-
-fn no_rows() -> Rows
-    ensures { result ≡ no_rows_of }
-{
-    let none = no_marks();
-    Rows {
-        down: none,
-        up: none,
-    }
-}
-
-// Row p gets mark q, if it is to be added.
-fn marked(rows: [u64; 64], add: bool, p: usize, q: usize) -> [u64; 64]
-    ensures { result ≡ marked_of rows add p q }
-{
-    if !add {
-        return rows;
-    }
-    if 64 <= p {
-        return rows;
-    }
-    let mut next = rows;
-    next[p] = marks::insert(rows[p], q);
-    next
-}
-
-// The rows with a link more, if it is to be added.
-fn with_link(t: Rows, add: bool, l: Link) -> Rows
-    ensures { result ≡ with_link_of t add l }
-{
-    let down = t.down;
-    let up = t.up;
-    let p = l.from;
-    let q = l.to;
-    Rows {
-        down: marked(down, add, p, q),
-        up: marked(up, add, q, p),
-    }
+    critical(&held, b.link[l])
 }
 
 // The critical links of the board.
-fn critical_rows(b: Board, held: Budget) -> Rows
-    ensures { CriticalRows b held result }
+fn critical_rows(b: &Board, held: &Budget) -> Rows
+    ensures { CriticalRows b.now held.now result }
 {
-    let n = lesser(b.links, 256);
-    let mut t = no_rows();
-    let mut k: usize = 0;
-    while k < n {
+    let n = b.links.min(256);
+    let mut t = Rows {
+        down: [0; 64],
+        up: [0; 64],
+    };
+    for k in 0..n {
         let l = b.link[k];
-        let next = with_link(t, critical(held, l), l);
-        t = next;
-        k = k + 1;
+        if critical(held, l) {
+            marks::mark(&mut t.down, l.from, l.to);
+            marks::mark(&mut t.up, l.to, l.from);
+        }
     }
     t
 }
@@ -127,46 +80,37 @@ fn joined(set: u64, seen: u64, k: usize, row: u64) -> u64
 }
 
 // The set and all that the rows of those seen mark.
-fn gathered(rows: [u64; 64], seen: u64, set: u64) -> u64
-    ensures { result ≡ gathered_of rows seen set }
+fn gathered(rows: &[u64; 64], seen: u64, set: u64) -> u64
+    ensures { result ≡ gathered_of rows.now seen set }
 {
     let mut s = set;
-    let mut k: usize = 0;
-    while k < 64 {
+    for k in 0..64 {
         s = joined(s, seen, k, rows[k]);
-        k = k + 1;
     }
     s
 }
 
+// Kept: (a) 01 names this form, parent step and child step that call each other.
 // Children are all that critical links lead to from the parents. The parents have all that lead to the children so far.
 #[cycle(child_step_parent_step)]
-fn child_step(t: Rows, parents: u64, children: u64) -> Kin
-    ensures { Led t.up children parents → Grown t parents children result }
+fn child_step(t: &Rows, parents: u64, children: u64) -> Kin
+    ensures { Led t.now.up children parents → Grown t.now parents children result }
 {
-    let rows = t.down;
-    let next = gathered(rows, parents, children);
+    let next = gathered(&t.down, parents, children);
     if next == children {
-        return Kin {
-            parents: parents,
-            children: children,
-        };
+        return Kin { parents, children };
     }
     parent_step(t, parents, next)
 }
 
 // Parents are all that have a critical link to the children. The children are all that the parents so far lead to.
 #[cycle(child_step_parent_step)]
-fn parent_step(t: Rows, parents: u64, children: u64) -> Kin
-    ensures { Led t.down parents children → Grown t parents children result }
+fn parent_step(t: &Rows, parents: u64, children: u64) -> Kin
+    ensures { Led t.now.down parents children → Grown t.now parents children result }
 {
-    let rows = t.up;
-    let next = gathered(rows, children, parents);
+    let next = gathered(&t.up, children, parents);
     if next == parents {
-        return Kin {
-            parents: parents,
-            children: children,
-        };
+        return Kin { parents, children };
     }
     child_step(t, next, children)
 }
@@ -175,6 +119,6 @@ fn parent_step(t: Rows, parents: u64, children: u64) -> Kin
 pub fn kin_of(b: Board, held: Budget, p: usize) -> Kin
     ensures { KinOf (Critical b held) p result }
 {
-    let t = critical_rows(b, held);
-    child_step(t, marks::one(p), 0)
+    let t = critical_rows(&b, &held);
+    child_step(&t, marks::one(p), 0)
 }

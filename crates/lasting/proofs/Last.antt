@@ -14,7 +14,7 @@ use Rattle.theory.specs.Graph.{Graph, Times, Lawful, Feasible, Slack, Conserves}
 use Rattle.theory.specs.Latest.{Latest}
 use Rattle.theory.proofs.Turning.{Over}
 use Rattle.theory.proofs.LatestLaws.{greatest_latest}
-use Rattle.nets.specs.Net.{Net}
+use Rattle.nets.specs.Network.{Network}
 use Rattle.nets.specs.Flow.{Fit, First, Balanced, Sheet, Never}
 use Rattle.nets.specs.Wired.{Wired, times_of, flow_of}
 use Rattle.lasting.specs.Turned.{opposite_of, countdown, TurnedNet}
@@ -111,13 +111,13 @@ counted_down g g' base base' x a b due a' b' same q s l qa qb =
       };
     }
 
-fit_spans : (N : Net) (t x : ℕ → ℕ) (a : ℕ) → Fit N t x a → Spans (N.gain a) (N.base a) (x a) (t (N.tail a)) (t (N.head a))
+fit_spans : (N : Network) (t x : ℕ → ℕ) (a : ℕ) → Fit N t x a → Spans (N.gain a) (N.base a) (x a) (t (N.tail a)) (t (N.head a))
 fit_spans N t x a f = record { long = f.base; suits = f.suits }
 
-spans_fit : (N : Net) (t x : ℕ → ℕ) (a : ℕ) → Spans (N.gain a) (N.base a) (x a) (t (N.tail a)) (t (N.head a)) → Fit N t x a
+spans_fit : (N : Network) (t x : ℕ → ℕ) (a : ℕ) → Spans (N.gain a) (N.base a) (x a) (t (N.tail a)) (t (N.head a)) → Fit N t x a
 spans_fit N t x a s = record { base = s.long; suits = s.suits }
 
-module _ (N N' : Net) (w' : TurnedNet N N')
+module _ (N N' : Network) (w' : TurnedNet N N')
     (heads : (a : ℕ) → a < N.arcs → N.head a < 130) (tails : (a : ℕ) → a < N.arcs → N.tail a < 130) (due : ℕ) (x : ℕ → ℕ)
   where
     pub turned_sheet : Sheet N.arcs N.tail N.head x → Sheet N'.arcs N'.tail N'.head x
@@ -151,7 +151,7 @@ module _ (N N' : Net) (w' : TurnedNet N N')
         (ap (λ v. due - t v) (sym (w'.head a h)))
         (ap (λ v. due - t v) (sym (w'.tail a h))))
 
-module _ (G : Graph) (o : Lawful G) (N : Net) (w : Wired G N) (N' : Net) (w' : TurnedNet N N')
+module _ (G : Graph) (o : Lawful G) (N : Network) (w : Wired G N) (N' : Network) (w' : TurnedNet N N')
     (heads : (a : ℕ) → a < N.arcs → N.head a < 130) (tails : (a : ℕ) → a < N.arcs → N.tail a < 130) (due : ℕ) (x : ℕ → ℕ)
   where
     -- ---- times that are slack with the loads fit them in the network turned round

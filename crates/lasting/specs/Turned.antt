@@ -1,10 +1,12 @@
 -- The network turned round, for the last times: each arc goes the other way, a part's start and its end change places, and so do source and sink.
 -- The idea: its first times, counted down from the deadline, are the last times of the network (proofs/Last).
 -- Assumes nothing.
-use Rattle.std.specs.Prelude.{◌≡◌, Bool, List, ℕ, ◌+◌, ◌-◌, ◌<◌, ltb, length}
+use Rattle.std.specs.Prelude.{◌≡◌, Bool, List, ℕ, ◌+◌, ◌-◌, ◌<◌, ltb}
 use Rattle.base.specs.Pick.{pick}
 use Rattle.theory.specs.Sum.{cells}
-use Rattle.nets.specs.Net.{Net}
+use Rattle.nets.specs.declared.Net.{Net}
+use Rattle.nets.specs.declared.Work.{Work}
+use Rattle.nets.specs.Network.{Network}
 use Rattle.deciding.specs.Finding.{AnsweredIn}
 
 -- the node on the other side
@@ -16,7 +18,7 @@ unfoldable pub countdown : ℕ → (ℕ → ℕ) → ℕ → ℕ
 countdown due t v = due - t (opposite_of v)
 
 -- N' is N turned round
-pub record TurnedNet (N N' : Net) : Type 0 where
+pub record TurnedNet (N N' : Network) : Type 0 where
   pub arcs : N'.arcs ≡ N.arcs
   pub tail : (a : ℕ) → a < N.arcs → N'.tail a ≡ opposite_of (N.head a)
   pub head : (a : ℕ) → a < N.arcs → N'.head a ≡ opposite_of (N.tail a)
@@ -24,18 +26,24 @@ pub record TurnedNet (N N' : Net) : Type 0 where
   pub gain : (a : ℕ) → a < N.arcs → (j : ℕ) → N'.gain a j ≡ N.gain a j
 
 -- ---- in the sheets
--- cell k of the net turned round: tails are across from heads and heads from tails, and all else is as it was
-unfoldable pub turned_at : List ℕ → ℕ → ℕ
-turned_at net k = pick (ltb k 448) (opposite_of (cells net (448 + k))) (pick (ltb k 896) (opposite_of (cells net (k - 448))) (cells net k))
+-- the ends of arcs, each on the other side
+pub record Across (ends turned : List ℕ) : Type 0 where
+  pub side : (a : ℕ) → a < 448 → cells turned a ≡ opposite_of (cells ends a)
 
--- the first n cells
-pub record TurningIn (net : List ℕ) (n : ℕ) (turned : List ℕ) : Type 0 where
-  pub cell : (k : ℕ) → k < n → cells turned k ≡ turned_at net k
-  pub long : length turned ≡ 2048
-  pub net_long : length net ≡ 2048
+-- tails are across from heads and heads from tails, and all else is as it was
+pub record TurnedIn (net turned : Net) : Type 0 where
+  pub tail : Across net.head turned.tail
+  pub head : Across net.tail turned.head
+  pub base : turned.base ≡ net.base
+  pub length : turned.length ≡ net.length
+  pub saving : turned.saving ≡ net.saving
+  pub late : turned.late ≡ net.late
+  pub arcs : turned.arcs ≡ net.arcs
+  pub parts : turned.parts ≡ net.parts
+  pub due : turned.due ≡ net.due
 
 -- the verdict on the loads of w by the net turned round
-pub record LastIn (net : List ℕ) (due : ℕ) (w w' : List ℕ) (r : Bool) : Type 0 where
-  pub sheet : List ℕ
-  pub turned : TurningIn net 2048 sheet
+pub record LastIn (net : Net) (due : ℕ) (w w' : Work) (r : Bool) : Type 0 where
+  pub sheet : Net
+  pub turned : TurnedIn net sheet
   pub answered : AnsweredIn sheet due w w' r

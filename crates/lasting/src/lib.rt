@@ -3,9 +3,11 @@
 // of the cheapest. It knows no board.
 #![tactic(auto)]
 
-ghost use Rattle.std.specs.Prelude.{◌≡◌, ◌<◌};
+ghost use Rattle.std.specs.Prelude.{◌≡◌};
 ghost use Rattle.deciding.specs.Raising.{FairIn};
-ghost use Rattle.lasting.specs.Turned.{opposite_of, turned_at, TurningIn, LastIn};
+ghost use Rattle.lasting.specs.Turned.{opposite_of, Across, TurnedIn, LastIn};
+
+use nets::{Net, Work};
 
 // The node on the other side: a part's end for its start, its start for its end, the sink for the source and the source for the sink.
 fn opposite(v: u32) -> u32
@@ -23,39 +25,34 @@ fn opposite(v: u32) -> u32
     128
 }
 
-// Cell `k` of the net turned round.
-fn turned_cell(net: &[u32; 2048], k: usize) -> u32
-    requires { k < 2048 }
-    ensures { result ≡ turned_at net.now k }
+// The nodes on the other side of the ends of arcs.
+fn across(ends: &[u32; 448]) -> [u32; 448]
+    ensures { Across ends.now result }
 {
-    if k < 448 {
-        return opposite(net[448 + k]);
-    }
-    if k < 896 {
-        return opposite(net[k - 448]);
-    }
-    net[k]
+    ends.map(opposite)
 }
 
 // The net turned round.
-fn turn(net: &[u32; 2048], turned: &mut [u32; 2048])
-    ensures { TurningIn net.now 2048 turned.new }
+fn turn(net: &Net) -> Net
+    ensures { TurnedIn net.now result }
 {
-    nets::seen(net);
-    nets::seen(turned);
-    let mut k: usize = 0;
-    while k < 2048 {
-        turned[k] = turned_cell(net, k);
-        k = k + 1;
+    Net {
+        tail: across(&net.head),
+        head: across(&net.tail),
+        base: net.base,
+        length: net.length,
+        saving: net.saving,
+        late: net.late,
+        arcs: net.arcs,
+        parts: net.parts,
+        due: net.due,
     }
 }
 
 // The first times of the net turned round that fit the loads, whatever they are, and end at the deadline, or no. Loads stay.
-pub fn last_times(net: &[u32; 2048], work: &mut [u32; 968], due: u32) -> bool
+pub fn last_times(net: &Net, work: &mut Work, due: u32) -> bool
     requires { FairIn net.now due }
     ensures { LastIn net.now due work.old work.new result }
 {
-    let mut turned = [0u32; 2048];
-    turn(net, &mut turned);
-    deciding::finding::answer(&turned, work, due)
+    deciding::finding::answer(&turn(net), work, due)
 }

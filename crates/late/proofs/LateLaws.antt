@@ -18,12 +18,12 @@ use Rattle.curve.specs.Rows.{no_ticks, ticks_at}
 use Rattle.curve.proofs.RowLaws.{ticks_at_lem, ticks_past, same_ticks}
 use Rattle.board.specs.declared.Link.{Link}
 use Rattle.board.specs.declared.Board.{Board}
-use Rattle.board.specs.Board.{no_link, link_at, delay_of, view, usable, WellFormed}
+use Rattle.board.specs.Board.{no_link, link_at, turned_link, delay_of, view, usable, WellFormed}
 use Rattle.board.proofs.Lawful.{lawful}
 use Rattle.board.proofs.UsableLaws.{usable_to}
 use Rattle.times.specs.declared.Schedule.{Schedule}
 use Rattle.times.specs.Times.{graph_of, TimesOf, Loopless, LooplessBy}
-use Rattle.late.specs.Late.{turned_link, Turned, left_of, LatestEndsOf}
+use Rattle.late.specs.Late.{Turned, left_of, LatestEndsOf}
 
 greatest_ext : (m : ℕ) (f g : ℕ → ℕ) → ((l : ℕ) → l < m → f l ≡ g l) → greatest m f ≡ greatest m g
 unfolding greatest

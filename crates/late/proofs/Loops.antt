@@ -1,44 +1,16 @@
--- The ways through the loops: links turned round one by one, and what is left of the deadline part by part.
+-- The ways through the loop: what is left of the deadline part by part.
 -- Assumes nothing.
-use mathlib.Core.Path.{◌≡◌, ap, ◌∙◌}
+use mathlib.Core.Path.{◌≡◌, ap}
 use mathlib.Core.List.{List}
 use Prim.Native.Nat.{ℕ, ◌+◌, ◌-◌, ◌≤◌, ◌<◌}
 use native.Mathlib.Omega.{arith}
-use native.Mathlib.Decide.{ℕ_discrete}
-use lib.ListN.{length, get_or, set, length-set}
-use lib.Seq.{get_or-set_same, get_or-set_other}
+use lib.ListN.{set}
 use Rattle.base.specs.Table.{table}
 use Rattle.base.proofs.TableLaws.{firsts_none, firsts_more, firsts_done}
 use Rattle.curve.specs.declared.Ticks.{Ticks}
 use Rattle.curve.specs.Rows.{no_ticks, ticks_at}
 use Rattle.curve.proofs.RowLaws.{ticks}
-use Rattle.board.specs.declared.Link.{Link}
-use Rattle.board.specs.Board.{no_link}
-use Rattle.late.specs.Late.{turned_link, Turned, left_of}
-
--- ---- turned: the first k links are turned round
-pub record TurnedTo (link link' : List Link) (k : ℕ) : Type 0 where
-  pub each : (l : ℕ) → l < k → get_or link' l no_link ≡ turned_link (get_or link l no_link)
-  pub room : length link' ≡ 256
-
-module _ (link : List Link) where
-  pub turned_none : (link' : List Link) → length link' ≡ 256 → TurnedTo link link' 0
-  turned_none link' room = record { each = λ l h. absurd (omega arith); room = room }
-
-  module _ (link' : List Link) (k : ℕ) (so_far : TurnedTo link link' k) where
-    turned_each : (v : Link) → k < 256 → v ≡ turned_link (get_or link k no_link) → (l : ℕ) → l < k + 1 →
-        get_or (set link' k v) l no_link ≡ turned_link (get_or link l no_link)
-    turned_each v h new l i =
-        elim (ℕ_discrete l k) [
-          | yes q ↦ rw q (get_or-set_same link' k v no_link (omega (arith, so_far.room)) ∙ new)
-          | no d ↦ get_or-set_other link' k l v no_link d ∙ so_far.each l (omega arith)
-        ]
-
-    pub turned_more : (v : Link) → k < 256 → v ≡ turned_link (get_or link k no_link) → TurnedTo link (set link' k v) (k + 1)
-    turned_more v h new = record { each = turned_each v h new; room = length-set link' k v ∙ so_far.room }
-
-    pub turned_done : 256 ≤ k → Turned link link'
-    turned_done h = record { each = λ l i. so_far.each l (omega arith) }
+use Rattle.late.specs.Late.{left_of}
 
 -- ---- left
 module _ (due : ℕ) (s e : List Ticks) where

@@ -7,7 +7,7 @@ use Rattle.curve.specs.declared.Ticks.{Ticks}
 use Rattle.curve.specs.Rows.{ticks_at, ticks_row}
 use Rattle.board.specs.declared.Link.{Link}
 use Rattle.board.specs.declared.Board.{Board}
-use Rattle.board.specs.Board.{no_link, view, usable}
+use Rattle.board.specs.Board.{no_link, turned_link, view, usable}
 
 -- the latest ends that these delays leave by the usable deadline. Places without a part hold 0.
 pub record LatestEndsOf (b : Board) (delay late : List Ticks) : Type 0 where
@@ -16,10 +16,7 @@ pub record LatestEndsOf (b : Board) (delay late : List Ticks) : Type 0 where
   pub room : length late ≡ 64
 
 -- ---- its steps
--- a link the other way round
-abbrev pub turned_link : Link → Link
-turned_link l = record { from = l.to; to = l.from; delay = l.delay }
-
+-- each link the other way round
 pub record Turned (link link' : List Link) : Type 0 where
   pub each : (l : ℕ) → l < 256 → get_or link' l no_link ≡ turned_link (get_or link l no_link)
 

@@ -4,47 +4,19 @@
 
 ghost use Rattle.std.specs.Prelude.{◌≡◌, ◌≤◌};
 ghost use Rattle.times.specs.Times.{Loopless};
-ghost use Rattle.late.specs.Late.{turned_link, Turned, left_of, LatestEndsOf};
+ghost use Rattle.late.specs.Late.{left_of, LatestEndsOf};
 
-use base::lesser;
-use board::{Board, Link};
-use curve::{Ticks, no_ticks};
-
-// A link the other way round.
-fn turned_link(l: Link) -> Link
-    ensures { result ≡ turned_link l }
-{
-    let delay = l.delay;
-    Link {
-        from: l.to,
-        to: l.from,
-        delay: delay,
-    }
-}
-
-// Each link the other way round.
-fn turned(link: [Link; 256]) -> [Link; 256]
-    ensures { Turned link result }
-{
-    let mut t = link;
-    let mut k: usize = 0;
-    while k < 256 {
-        t[k] = turned_link(link[k]);
-        k = k + 1;
-    }
-    t
-}
+use board::Board;
+use curve::Ticks;
 
 // What is left of the deadline at each of the first `n` parts.
-fn left(due: Ticks, s: [Ticks; 64], n: usize) -> [Ticks; 64]
+fn left(due: Ticks, s: &[Ticks; 64], n: usize) -> [Ticks; 64]
     requires { n ≤ 64 }
-    ensures { result ≡ left_of due.0 s n }
+    ensures { result ≡ left_of due.0 s.now n }
 {
-    let mut e = no_ticks();
-    let mut k: usize = 0;
-    while k < n {
+    let mut e = [Ticks(0); 64];
+    for k in 0..n {
         e[k] = due.less(s[k]);
-        k = k + 1;
     }
     e
 }
@@ -53,10 +25,7 @@ fn left(due: Ticks, s: [Ticks; 64], n: usize) -> [Ticks; 64]
 pub fn latest_ends(b: Board, delay: [Ticks; 64]) -> [Ticks; 64]
     ensures { Loopless b → LatestEndsOf b delay result }
 {
-    let link = b.link;
-    let back = turned(link);
+    let back = b.link.map(|l| l.turned());
     let s = times::times_by(back, b.links, b.parts, delay);
-    let start = s.start;
-    let due = board::usable_deadline(b);
-    left(due, start, lesser(b.parts, 64))
+    left(board::usable_deadline(b), &s.start, b.parts.min(64))
 }

@@ -1,267 +1,252 @@
 // The room of the wiring: the work laid out from the network and the loads to begin with, and the loads taken from it at the end. Only arcs that can
 // matter are laid. Where an arc is all that leads from a part's end, or all that leads to a part's start, its two nodes are one: the part is longer
 // by its delay, and it has the part's load.
-use crate::sheet::*;
-use crate::{pricing, sparing};
-
-fn lay_runs(net: &[u32; 2048], s: &mut [u32; 8192]) {
-    let mut k: u32 = 0;
-    while k < 256 {
-        put(s, LENGTHS, k, read(net, NET_LENGTHS, k));
-        put(s, SAVINGS, k, read(net, NET_SAVINGS, k));
-        k = k + 1;
-    }
-}
-
-fn lay_times(net: &[u32; 2048], s: &mut [u32; 8192]) {
-    let mut v: u32 = 0;
-    while v < 130 {
-        put(s, TIME, v, read(net, NET_TIMES, v));
-        v = v + 1;
-    }
-}
-
-fn lay_fastest(net: &[u32; 2048], s: &mut [u32; 8192]) {
-    let mut p: u32 = 0;
-    while p < 64 {
-        put(s, FASTEST, p, add(read(net, NET_BASE, p), HALF));
-        p = p + 1;
-    }
-}
+use crate::arcs::Arcs;
+use crate::given::{Given, Wire};
+use crate::numbers::{ArcId, End, List, NO_PLACES, Node, Part, Place, SINK, SOURCE, Table};
+use crate::sparing;
 
 // ---- loads to begin with: whatever those given are, entries and exits are such that each node has as much to it as from it
-fn load_at(loads: &[u32; 448], a: u32) -> u32 {
-    if 448 <= a {
-        return 0;
-    }
-    loads[a as usize]
+#[derive(Drop)]
+struct Begun {
+    load: Table<u32, 448>,
+    // What links bring to a start, or take from an end.
+    linked: Table<u32, 130>,
+    // What all exits bring to the sink.
+    sent: u32,
 }
 
-fn begin_link(s: &mut [u32; 8192], a: u32, tail: u32, head: u32, x: u32) {
-    put(s, LOAD, a, x);
-    put(s, LINKED, tail, add(get(s, LINKED, tail), x));
-    put(s, LINKED, head, add(get(s, LINKED, head), x));
-}
+impl Begun {
+    const BLANK: Begun = Begun {
+        load: Table { rows: [0; 448] },
+        linked: Table { rows: [0; 130] },
+        sent: 0,
+    };
 
-// Links stand from place `first` to place `end`.
-fn begin_links(net: &[u32; 2048], s: &mut [u32; 8192], loads: &[u32; 448], first: u32, end: u32) {
-    let mut k: u32 = 0;
-    while k < 256 {
-        let a = add(first, k);
-        if end <= a {
-            return;
+    fn begin(&mut self, given: &Given, loads: &[u32; 448]) {
+        for k in given.parts..given.entries() {
+            let a = Place::of(k);
+            self.link(a, &given.wire(a), loads[k]);
         }
-        begin_link(
-            s,
-            a,
-            read(net, NET_TAIL, a),
-            read(net, NET_HEAD, a),
-            load_at(loads, a),
-        );
-        k = k + 1;
-    }
-}
-
-// Part p, whose entry stands at place `at` and its exit `parts` places on. What it sends to the sink is returned.
-fn begin_part(s: &mut [u32; 8192], p: u32, at: u32, parts: u32, x: u32) -> u32 {
-    let to = get(s, LINKED, p);
-    let from = get(s, LINKED, add(p, 64));
-    let most = either(to < from, from, to);
-    let load = either(x < most, most, x);
-    put(s, LOAD, p, load);
-    put(s, LOAD, at, sub(load, to));
-    put(s, LOAD, add(at, parts), sub(load, from));
-    sub(load, from)
-}
-
-fn begin_parts(s: &mut [u32; 8192], loads: &[u32; 448], parts: u32, first: u32) -> u32 {
-    let mut sent: u32 = 0;
-    let mut p: u32 = 0;
-    while p < 64 {
-        if parts <= p {
-            return sent;
+        for p in 0..given.parts {
+            let (entry, exit) = (given.entry(p), given.exit(p));
+            self.part(Part::of(p), entry, exit, loads[p]);
         }
-        sent = add(
-            sent,
-            begin_part(s, p, add(first, p), parts, load_at(loads, p)),
-        );
-        p = p + 1;
     }
-    sent
+
+    fn link(&mut self, a: Place, link: &Wire, x: u32) {
+        self.load[a] = x;
+        self.linked[link.tail] = self.linked[link.tail].wrapping_add(x);
+        self.linked[link.head] = self.linked[link.head].wrapping_add(x);
+    }
+
+    // Part p, and its entry and exit.
+    fn part(&mut self, p: Part, entry: Place, exit: Place, x: u32) {
+        let to = self.linked[p.start()];
+        let from = self.linked[p.end()];
+        let load = x.max(to).max(from);
+        self.load[p.place()] = load;
+        self.load[entry] = load - to;
+        self.load[exit] = load - from;
+        self.sent = self.sent.wrapping_add(load - from);
+    }
 }
 
 // ---- which arcs are kept
-// Whether an arc can matter: it is loaded, or it is an entry or an exit of a part that no other comes before or after, or a link that is not spared.
-fn matters(s: &[u32; 8192], twos: &[u64; 64], tail: u32, head: u32, base: u32, x: u32) -> bool {
-    if x != 0 {
-        return true;
-    }
-    if tail == SOURCE {
-        return get(s, ENTERING, head) == 0;
-    }
-    if head == SINK {
-        return get(s, LEAVING, tail) == 0;
-    }
-    if base != 0 {
-        return true;
-    }
-    !sparing::spared(twos, tail, head)
+#[derive(Drop)]
+struct Kept {
+    // Parts, and then the other arcs that are kept.
+    places: List<Place, 448>,
+    // How many that are kept lead to each node, and from it.
+    entering: Table<u32, 130>,
+    leaving: Table<u32, 130>,
 }
 
-fn keep_arc(net: &[u32; 2048], s: &mut [u32; 8192], twos: &[u64; 64], a: u32) {
-    let tail = read(net, NET_TAIL, a);
-    let head = read(net, NET_HEAD, a);
-    if matters(s, twos, tail, head, read(net, NET_BASE, a), get(s, LOAD, a)) {
-        let n = get(s, KEPT, 0);
-        put(s, PLACE, n, a);
-        put(s, KEPT, 0, add(n, 1));
-        put(s, LEAVING, tail, add(get(s, LEAVING, tail), 1));
-        put(s, ENTERING, head, add(get(s, ENTERING, head), 1));
+impl Kept {
+    const BLANK: Kept = Kept {
+        places: NO_PLACES,
+        entering: Table { rows: [0; 130] },
+        leaving: Table { rows: [0; 130] },
+    };
+
+    fn choose(&mut self, given: &Given, begun: &Begun) {
+        let twos = sparing::twos(given);
+        for p in 0..given.parts {
+            self.places.push(Part::of(p).place());
+        }
+        for k in given.parts..given.arcs {
+            let a = Place::of(k);
+            let arc = given.wire(a);
+            if self.matters(&twos, &arc, begun.load[a]) {
+                self.keep(a, &arc);
+            }
+        }
+    }
+
+    // Whether an arc can matter: it is loaded, or it is an entry or an exit of a part that no other comes before or after, or a link that is not spared.
+    fn matters(&self, twos: &Table<u64, 64>, arc: &Wire, x: u32) -> bool {
+        if x != 0 {
+            true
+        } else if arc.tail == SOURCE {
+            self.entering[arc.head] == 0
+        } else if arc.head == SINK {
+            self.leaving[arc.tail] == 0
+        } else {
+            arc.base != 0 || !sparing::spared(twos, arc)
+        }
+    }
+
+    fn keep(&mut self, a: Place, arc: &Wire) {
+        self.places.push(a);
+        self.leaving[arc.tail] = self.leaving[arc.tail].wrapping_add(1);
+        self.entering[arc.head] = self.entering[arc.head].wrapping_add(1);
     }
 }
 
-// All arcs but the parts. Those that are kept stand in a list, after as many places as there are parts.
-fn keep_arcs(net: &[u32; 2048], s: &mut [u32; 8192], twos: &[u64; 64], parts: u32, arcs: u32) {
-    put(s, KEPT, 0, parts);
-    let mut k: u32 = 0;
-    while k < 448 {
-        let a = add(parts, k);
-        if arcs <= a {
+// ---- the work
+// The node that a node of a part is one with, and the arc by which it is.
+#[derive(Clone, Copy)]
+pub struct Join {
+    pub node: Node,
+    pub by: Place,
+}
+
+// Which node a node is one with, and the nodes that are one with it: the first here, the next at that one's `sibling`.
+#[derive(Clone, Copy)]
+pub struct Joint {
+    pub join: Option<Join>,
+    pub member: Option<Node>,
+    pub sibling: Option<Node>,
+}
+
+#[derive(Drop)]
+pub struct Work {
+    pub arcs: Arcs,
+    // How many nodes are left.
+    pub nodes: usize,
+    pub joint: Table<Joint, 130>,
+    // The first end of an arc at a node, and the next at the same node.
+    first: Table<Option<End>, 130>,
+    after: Table<Option<End>, 898>,
+    // The place of an arc in the network: the deadline's has none.
+    place: Table<Option<Place>, 449>,
+    // The arc here whose load an arc of the network has.
+    carrier: Table<Option<ArcId>, 448>,
+}
+
+impl Work {
+    pub const BLANK: Work = Work {
+        arcs: Arcs::BLANK,
+        nodes: 0,
+        joint: Table {
+            rows: [Joint {
+                join: None,
+                member: None,
+                sibling: None,
+            }; 130],
+        },
+        first: Table { rows: [None; 130] },
+        after: Table { rows: [None; 898] },
+        place: Table { rows: [None; 449] },
+        carrier: Table { rows: [None; 448] },
+    };
+
+    pub fn lay(&mut self, given: &Given, loads: &[u32; 448]) {
+        let mut begun = Begun::BLANK;
+        begun.begin(given, loads);
+        let mut kept = Kept::BLANK;
+        kept.choose(given, &begun);
+        self.arcs.take_curves(given);
+        self.nodes = 2 * given.parts + 2;
+        for a in kept.places.as_slice().iter().skip(given.parts) {
+            self.join_arc(given, &kept, *a);
+        }
+        for a in kept.places.as_slice() {
+            self.lay_place(given, &begun, *a);
+        }
+        let due = given.due().wrapping_neg();
+        self.lay_arc(None, SINK, SOURCE, due, begun.sent);
+    }
+
+    // ---- which nodes are one
+    // The node `v` of a part is node `w`, by arc a of so many ticks.
+    fn join(&mut self, a: Place, v: Node, w: Node, ticks: u32) {
+        self.joint[v].join = Some(Join { node: w, by: a });
+        self.joint[v].sibling = self.joint[w].member;
+        self.joint[w].member = Some(v);
+        self.arcs.lengthen(v.part(), ticks);
+        self.carrier[a] = Some(v.part().arc());
+        self.nodes = self.nodes.saturating_sub(1);
+    }
+
+    fn join_arc(&mut self, given: &Given, kept: &Kept, a: Place) {
+        let Wire { tail, head, base } = given.wire(a);
+        if tail != SOURCE && kept.leaving[tail] == 1 {
+            self.join(a, tail, head, base);
+        } else if head != SINK && kept.entering[head] == 1 {
+            self.join(a, head, tail, base);
+        }
+    }
+
+    // The node that node v is one with, or itself.
+    fn node(&self, v: Node) -> Node {
+        self.joint[v].join.map_or(v, |join| join.node)
+    }
+
+    // ---- the arcs that are left
+    // One arc more, which is at a place of the network.
+    fn lay_arc(&mut self, place: Option<Place>, tail: Node, head: Node, base: u32, x: u32) {
+        let Some(a) = self.arcs.push(tail, head, base, x) else {
+            return;
+        };
+        self.list(a.tail(), tail);
+        self.list(a.head(), head);
+        self.place[a] = place;
+        if let Some(k) = place {
+            self.carrier[k] = Some(a);
+        }
+    }
+
+    fn list(&mut self, end: End, v: Node) {
+        self.after[end] = self.first[v];
+        self.first[v] = Some(end);
+    }
+
+    // The arc at place a of the network, where it is not one that joined two nodes.
+    fn lay_place(&mut self, given: &Given, begun: &Begun, a: Place) {
+        if self.carrier[a].is_some() {
             return;
         }
-        keep_arc(net, s, twos, a);
-        k = k + 1;
+        let arc = given.wire(a);
+        let tail = self.node(arc.tail);
+        let head = self.node(arc.head);
+        self.lay_arc(Some(a), tail, head, arc.base, begun.load[a]);
     }
-}
 
-// ---- which nodes are one
-// The node `v` of a part is node `w`, by arc a of so many ticks.
-fn join(s: &mut [u32; 8192], a: u32, v: u32, w: u32, ticks: u32) {
-    let part = v % 64;
-    put(s, SAME, v, add(w, 1));
-    put(s, BY, v, a);
-    put(s, SIBLING, v, get(s, MEMBER, w));
-    put(s, MEMBER, w, add(v, 1));
-    put(s, FASTEST, part, add(get(s, FASTEST, part), ticks));
-    put(s, FROM, a, add(part, 1));
-    put(s, ALL, 0, sub(get(s, ALL, 0), 1));
-}
-
-fn join_arc(net: &[u32; 2048], s: &mut [u32; 8192], a: u32) {
-    let tail = read(net, NET_TAIL, a);
-    let head = read(net, NET_HEAD, a);
-    let base = read(net, NET_BASE, a);
-    if tail != SOURCE && get(s, LEAVING, tail) == 1 {
-        join(s, a, tail, head, base);
-        return;
+    // ---- what is asked of it
+    // The first end of an arc at node v.
+    pub fn first(&self, v: Node) -> Option<End> {
+        self.first[v]
     }
-    if head != SINK && get(s, ENTERING, head) == 1 {
-        join(s, a, head, tail, base);
-    }
-}
 
-fn join_arcs(net: &[u32; 2048], s: &mut [u32; 8192], parts: u32) {
-    let kept = get(s, KEPT, 0);
-    let mut k: u32 = 0;
-    while k < 448 {
-        let at = add(parts, k);
-        if kept <= at {
-            return;
+    // The next at the same node.
+    pub fn after(&self, end: End) -> Option<End> {
+        self.after[end]
+    }
+
+    // The place of arc a in the network.
+    pub fn place(&self, a: ArcId) -> Option<Place> {
+        self.place[a]
+    }
+
+    // The load of the arc at place a of the network.
+    pub fn load_of(&self, a: Place) -> u32 {
+        self.carrier[a].map_or(0, |b| self.arcs[b].load)
+    }
+
+    pub fn take(&self, given: &Given, loads: &mut [u32; 448]) {
+        for k in 0..given.arcs {
+            loads[k] = self.load_of(Place::of(k));
         }
-        let a = get(s, PLACE, at);
-        join_arc(net, s, a);
-        k = k + 1;
-    }
-}
-
-fn node(s: &[u32; 8192], v: u32) -> u32 {
-    let same = get(s, SAME, v);
-    either(same == 0, v, sub(same, 1))
-}
-
-// ---- the arcs that are left
-fn list_arc(s: &mut [u32; 8192], after: u32, a: u32, v: u32) {
-    put(s, after, a, get(s, FIRST, v));
-    put(s, FIRST, v, add(a, 1));
-}
-
-// One arc more, which is at a place of the network.
-fn lay_arc(s: &mut [u32; 8192], tail: u32, head: u32, low: u32, x: u32, place: u32) {
-    let a = get(s, ARCS, 0);
-    put(s, TAIL, a, tail);
-    put(s, HEAD, a, head);
-    put(s, LOW, a, add(low, HALF));
-    put(s, LOAD, a, x);
-    put(s, PLACE, a, place);
-    list_arc(s, AFTER_TAIL, a, tail);
-    list_arc(s, AFTER_HEAD, a, head);
-    put(s, ARCS, 0, add(a, 1));
-    pricing::reprice(s, a);
-}
-
-// The arc at place a of the network, where it is not one that joined two nodes.
-fn lay_place(net: &[u32; 2048], s: &mut [u32; 8192], a: u32) {
-    if get(s, FROM, a) != 0 {
-        return;
-    }
-    put(s, FROM, a, add(get(s, ARCS, 0), 1));
-    let tail = node(s, read(net, NET_TAIL, a));
-    let head = node(s, read(net, NET_HEAD, a));
-    let x = get(s, LOAD, a);
-    lay_arc(s, tail, head, read(net, NET_BASE, a), x, a);
-}
-
-// Parts, and the arcs that are kept. An arc is laid no further on than it stands in the list.
-fn lay_arcs(net: &[u32; 2048], s: &mut [u32; 8192], parts: u32) {
-    let kept = get(s, KEPT, 0);
-    let mut k: u32 = 0;
-    while k < 512 {
-        if kept <= k {
-            return;
-        }
-        let a = either(k < parts, k, get(s, PLACE, k));
-        lay_place(net, s, a);
-        k = k + 1;
-    }
-}
-
-pub fn lay(net: &[u32; 2048], loads: &[u32; 448], s: &mut [u32; 8192]) {
-    let arcs = read(net, NET_ARCS, 0);
-    let parts = read(net, NET_PARTS, 0);
-    let both = add(parts, parts);
-    put(s, PARTS, 0, parts);
-    put(s, ALL, 0, add(both, 2));
-    lay_runs(net, s);
-    lay_times(net, s);
-    lay_fastest(net, s);
-    let end = sub(arcs, both);
-    begin_links(net, s, loads, parts, end);
-    let sent = begin_parts(s, loads, parts, end);
-    let rows = sparing::rows(net, parts, end);
-    let twos = sparing::twos(net, &rows, parts, end);
-    keep_arcs(net, s, &twos, parts, arcs);
-    join_arcs(net, s, parts);
-    lay_arcs(net, s, parts);
-    lay_arc(s, SINK, SOURCE, sub(0, read(net, NET_DUE, 0)), sent, NONE);
-}
-
-// ---- the loads at the end
-// The load of the arc at place a of the network.
-pub fn load_of(s: &[u32; 8192], a: u32) -> u32 {
-    let from = get(s, FROM, a);
-    if from == 0 {
-        return 0;
-    }
-    get(s, LOAD, sub(from, 1))
-}
-
-pub fn take(s: &[u32; 8192], loads: &mut [u32; 448], arcs: u32) {
-    let mut a: u32 = 0;
-    while a < 448 {
-        if arcs <= a {
-            return;
-        }
-        loads[a as usize] = load_of(s, a);
-        a = a + 1;
     }
 }

@@ -1,24 +1,29 @@
--- Labels in the sheets. Labelling writes ranks, ways and rooms, which stand together at the work's end, and nothing else.
+-- Labels in the sheets. Labelling writes ranks, ways and rooms, and nothing else.
 -- Assumes nothing.
-use Rattle.std.specs.Prelude.{◌≡◌, List, ℕ, ◌+◌, length, set}
+use Rattle.std.specs.Prelude.{◌≡◌, ℕ}
 use Rattle.theory.specs.Sum.{cells}
-use Rattle.nets.specs.Layout.{LABELS, RANK, ROOM, VIA}
-use Rattle.nets.specs.Region.{Only}
-use Rattle.nets.specs.Sheet.{net_in, time_in, load_in, rank_in, via_in, room_in}
+use Rattle.nets.specs.declared.Net.{Net}
+use Rattle.nets.specs.declared.Work.{Work}
+use Rattle.nets.specs.Sheet.{net_in}
+use Rattle.nets.specs.Steps.{Put}
 use Rattle.nets.specs.Label.{Labels, Fresh}
+use Rattle.mainloop.specs.declared.judging.Label.{Label}
 
-unfoldable pub LabelsIn : List ℕ → List ℕ → ℕ → Type 0
-LabelsIn net w count = Labels (net_in net) (cells (time_in w)) (cells (load_in w)) (cells (rank_in w)) (cells (via_in w)) (cells (room_in w)) count
+unfoldable pub LabelsIn : Net → Work → ℕ → Type 0
+LabelsIn net w count = Labels (net_in net) (cells w.time) (cells w.load) (cells w.rank) (cells w.via) (cells w.room) count
 
 -- from w to w' only labels have changed
-abbrev pub Labelling : List ℕ → List ℕ → Type 0
-Labelling w w' = Only RANK LABELS w w'
+pub record Labelling (w w' : Work) : Type 0 where
+  pub time : w'.time ≡ w.time
+  pub load : w'.load ≡ w.load
 
--- node v is labelled by arc a
-pub record MarkedIn (w : List ℕ) (v a room count : ℕ) (w' : List ℕ) : Type 0 where
-  pub long : length w ≡ 968
-  pub sets : w' ≡ set (set (set w (RANK + v) count) (VIA + v) a) (ROOM + v) room
+-- the label's node is labelled
+pub record MarkedIn (w : Work) (l : Label) (count : ℕ) (w' : Work) : Type 0 where
+  pub rank : Put (cells w.rank) l.node count (cells w'.rank)
+  pub via : Put (cells w.via) l.node l.arc (cells w'.via)
+  pub room : Put (cells w.room) l.node l.room (cells w'.room)
+  pub only : Labelling w w'
 
-pub record FreshIn (w w' : List ℕ) : Type 0 where
-  pub fresh : Fresh (cells (rank_in w')) (cells (room_in w'))
+pub record FreshIn (w w' : Work) : Type 0 where
+  pub fresh : Fresh (cells w'.rank) (cells w'.room)
   pub only : Labelling w w'

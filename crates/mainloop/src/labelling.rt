@@ -3,29 +3,27 @@
 ghost use Rattle.std.specs.Prelude.{◌<◌};
 ghost use Rattle.mainloop.specs.Labelling.{MarkedIn, FreshIn};
 
-// Node `v` is labelled by arc `a`. This is the one place that writes a label.
-pub(crate) fn mark(work: &mut [u32; 968], v: usize, a: usize, room: u32, count: usize)
-    requires v_bound { v < 130 }
-    requires a_bound { a < 448 }
+use crate::judging::Label;
+use nets::Work;
+
+// A node is labelled. This is the one place that writes a label.
+pub(crate) fn mark(work: &mut Work, label: Label, count: usize)
+    requires node_bound { label.node < 130 }
+    requires arc_bound { label.arc < 448 }
     requires count_bound { count < 130 }
-    ensures { MarkedIn work.old v a room count work.new }
+    ensures { MarkedIn work.old label count work.new }
 {
-    nets::seen(work);
-    work[nets::RANK + v] = count as u32;
-    work[nets::VIA + v] = a as u32;
-    work[nets::ROOM + v] = room;
+    work.rank[label.node] = count as u32;
+    work.via[label.node] = label.arc as u32;
+    work.room[label.node] = label.room;
 }
 
 // Only the sink has a label.
-pub(crate) fn reset(work: &mut [u32; 968])
+// Kept: (d) as at `nets::Arc`: a room of 0 can carry nothing, and is no label.
+pub(crate) fn reset(work: &mut Work)
     ensures { FreshIn work.old work.new }
 {
-    nets::seen(work);
-    let mut v: usize = 0;
-    while v < 130 {
-        work[nets::ROOM + v] = 0;
-        v = v + 1;
-    }
-    work[nets::ROOM + 129] = 64001;
-    work[nets::RANK + 129] = 0;
+    work.room.fill(0);
+    work.room[129] = 64001;
+    work.rank[129] = 0;
 }

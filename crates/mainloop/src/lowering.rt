@@ -1,27 +1,19 @@
 // Lowering: the labelled nodes go down.
 ghost use Rattle.nets.specs.Steps.{Moved};
-ghost use Rattle.mainloop.specs.Lowering.{ShiftedIn};
+ghost use Rattle.mainloop.specs.Lowering.{Shifted};
 
-pub(crate) fn moved(t: u32, room: u32, d: u32) -> u32
+// Kept: (d) as at `nets::Arc`: a room of 0 is no label.
+fn moved(t: u32, room: u32, d: u32) -> u32
     ensures { Moved t room d result }
 {
-    if room == 0 {
-        return t;
-    }
-    if d <= t {
-        return t - d;
-    }
-    0
+    if room == 0 { t } else { t.saturating_sub(d) }
 }
 
-// The labelled nodes `d` earlier.
-pub(crate) fn shift(work: &mut [u32; 968], d: u32)
-    ensures { ShiftedIn work.old d 130 work.new }
+// The labelled nodes, which have room, `d` earlier.
+pub(crate) fn shift(time: &mut [u32; 130], room: &[u32; 130], d: u32)
+    ensures { Shifted room.now d 130 time.old time.new }
 {
-    nets::seen(work);
-    let mut v: usize = 0;
-    while v < 130 {
-        work[nets::TIME + v] = moved(work[nets::TIME + v], work[nets::ROOM + v], d);
-        v = v + 1;
+    for v in 0..130 {
+        time[v] = moved(time[v], room[v], d);
     }
 }

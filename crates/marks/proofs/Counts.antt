@@ -6,6 +6,9 @@ use Prim.Native.Nat.{ℕ, zero, suc, ◌/◌, ◌%◌, ◌^◌, ◌≤◌, ◌<�
 use native.Mathlib.Omega.{arith}
 use native.Mathlib.Nat.{pow-suc}
 use lib.Count.{ones, ones_step, ones-le, count_trailing_zeros, under}
+use borrow.Author.Tests.{eq-eqb, ne_eqb}
+use Rattle.std.specs.Prelude.{Some, None}
+use Rattle.base.specs.Pick.{pick}
 use Rattle.base.proofs.Cases.{eq_or_ne}
 use Rattle.marks.specs.Marks.{bit, insert_of, lowest_of}
 use Rattle.marks.proofs.Bits.{bit_zero, bit_suc, mark_below, insert_same, insert_other}
@@ -107,32 +110,34 @@ unfolding count_trailing_zeros
 lowest_to_below zero s = omega arith
 lowest_to_below (suc k) s = under_le (s % 2) (count_trailing_zeros k (s / 2)) k (lowest_to_below k (s / 2))
 
--- it is a mark
-pub lowest_is : (s : ℕ) → (s ≡ 0 → ⊥) → s < 2 ^ 64 → bit s (lowest_of s) ≡ 1
-unfolding lowest_of
-lowest_is s ne f = ⊎_elim (λ e. absurd (ne e)) (λ n. lowest_is_below 64 s (omega arith) f) (eq_or_ne s 0)
+-- it is a mark, and no mark is below it
+module _ (s p : ℕ) (is : lowest_of s ≡ Some p) where
+  low : p ≡ count_trailing_zeros 64 s
+  unfolding lowest_of pick
+  low = ⊎_elim (λ e. cc (rw (eq-eqb s 0 e) at is)) (λ ne. cc (rw (ne_eqb s 0 ne) at is)) (eq_or_ne s 0)
 
--- no mark is below it
-pub lowest_none : (s n : ℕ) → n < lowest_of s → bit s n ≡ 0
-unfolding lowest_of
-lowest_none s n h = lowest_none_below 64 s n h
+  some : s ≡ 0 → ⊥
+  unfolding lowest_of pick
+  some e = cc (rw (eq-eqb s 0 e) at is)
 
-pub lowest_to : (s : ℕ) → lowest_of s ≤ 64
-unfolding lowest_of
-lowest_to s = lowest_to_below 64 s
+  pub lowest_is : s < 2 ^ 64 → bit s p ≡ 1
+  lowest_is f = rw low (lowest_is_below 64 s (let ne : s ≡ 0 → ⊥ = some in omega arith) f)
 
-pub lowest_below : (s : ℕ) → (s ≡ 0 → ⊥) → s < 2 ^ 64 → lowest_of s < 64
-lowest_below s ne f = mark_below s (lowest_of s) f (lowest_is s ne f)
+  pub lowest_none : (n : ℕ) → n < p → bit s n ≡ 0
+  lowest_none n h = lowest_none_below 64 s n (omega (arith, low))
 
--- without a mark it is 64
-pub lowest_nothing : lowest_of 0 ≡ 64
-unfolding lowest_of count_trailing_zeros
-lowest_nothing = refl
+  pub lowest_below : s < 2 ^ 64 → p < 64
+  lowest_below f = mark_below s p f (lowest_is f)
 
--- so a lowest mark below 64 is one
-pub lowest_mark : (s : ℕ) → s < 2 ^ 64 → lowest_of s < 64 → bit s (lowest_of s) ≡ 1
-lowest_mark s f h = lowest_is s (λ e. let n : lowest_of s ≡ 64 = rw e lowest_nothing in omega arith) f
+-- where there is none the set is empty
+pub lowest_past : (s : ℕ) → lowest_of s ≡ None → s ≡ 0
+unfolding lowest_of pick
+lowest_past s is = ⊎_elim (λ e. e) (λ ne. cc (rw (ne_eqb s 0 ne) at is)) (eq_or_ne s 0)
 
--- and where it is not below 64 the set is empty
-pub lowest_past : (s : ℕ) → s < 2 ^ 64 → 64 ≤ lowest_of s → s ≡ 0
-lowest_past s f h = ⊎_elim (λ e. e) (λ ne. absurd (omega (arith, lowest_below s ne f))) (eq_or_ne s 0)
+-- and a set that is not has one
+pub lowest_some : (s : ℕ) → (s ≡ 0 → ⊥) → lowest_of s ≡ Some (count_trailing_zeros 64 s)
+unfolding lowest_of pick
+lowest_some s ne = rw (ne_eqb s 0 ne)
+
+pub low_to : (s : ℕ) → count_trailing_zeros 64 s ≤ 64
+low_to s = lowest_to_below 64 s

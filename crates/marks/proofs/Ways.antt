@@ -11,9 +11,11 @@ use lib.Bits.{bit_or, bit_xor}
 use lib.Count.{count_trailing_zeros}
 use lib.Dec.{eqb}
 use borrow.Author.Tests.{ne_eqb}
+use Rattle.std.specs.Prelude.{Some, None}
+use Rattle.base.specs.Pick.{pick}
 use Rattle.marks.specs.Marks.{bit, has_of, union_of, without_of, one_of, insert_of, lowest_of}
 use Rattle.marks.proofs.Bits.{bit_past, one_is, one_past}
-use Rattle.marks.proofs.Counts.{lowest_to}
+use Rattle.marks.proofs.Counts.{lowest_some, lowest_below, low_to}
 
 pub asked : (s n : ℕ) → eqb (s / 2 ^ n % 2) 1 ≡ has_of s n
 unfolding has_of bit
@@ -42,9 +44,16 @@ pub put : (s n o r : ℕ) → o ≡ one_of n → r ≡ union_of s o → r ≡ in
 unfolding insert_of
 put s n o r e is = rw (← e) is
 
-pub low : (s : ℕ) → count_trailing_zeros 64 s ≡ lowest_of s
-unfolding lowest_of
-low s = refl
+module _ (s : ℕ) where
+  pub low_none : s ≡ 0 → None ≡ lowest_of s
+  unfolding lowest_of pick
+  low_none e = rw e
 
-pub low_fits : (s : ℕ) → Fits w64 (count_trailing_zeros 64 s)
-low_fits s = record { fits = omega (arith, low s, lowest_to s) }
+  pub low_some : (s ≡ 0 → ⊥) → Some (count_trailing_zeros 64 s) ≡ lowest_of s
+  low_some ne = sym (lowest_some s ne)
+
+  pub low_small : (s ≡ 0 → ⊥) → s < 2 ^ 64 → count_trailing_zeros 64 s < 64
+  low_small ne f = lowest_below s _ (lowest_some s ne) f
+
+  pub low_fits : Fits w64 (count_trailing_zeros 64 s)
+  low_fits = record { fits = omega (arith, low_to s) }

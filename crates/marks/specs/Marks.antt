@@ -1,6 +1,6 @@
 -- 01, Questions about a held board: "a set of 64 marks, bit n for part n". Part n is in the set s where `bit s n ≡ 1`.
 -- Assumes nothing.
-use Rattle.std.specs.Prelude.{◌≡◌, Bool, ℕ, ◌/◌, ◌%◌, ◌^◌, ◌<◌, eqb, ltb}
+use Rattle.std.specs.Prelude.{◌≡◌, Bool, ℕ, ◌/◌, ◌%◌, ◌^◌, ◌<◌, eqb, ltb, Option, Some, None}
 use Rattle.std.specs.Int.Bits.{bit_or, bit_xor}
 use Rattle.std.specs.Int.Count.{count_trailing_zeros}
 use Rattle.base.specs.Pick.{pick}
@@ -30,9 +30,9 @@ insert_of s n = union_of s (one_of n)
 unfoldable pub remove_of : ℕ → ℕ → ℕ
 remove_of s n = without_of s (one_of n)
 
--- "trailing zeros the next part": the lowest mark, and 64 where there is none
-unfoldable pub lowest_of : ℕ → ℕ
-lowest_of s = count_trailing_zeros 64 s
+-- "trailing zeros the next part": the lowest mark, where there is one
+unfoldable pub lowest_of : ℕ → Option ℕ
+lowest_of s = pick (eqb s 0) None (Some (count_trailing_zeros 64 s))
 
 -- the set of 64 marks that has the parts of which R holds, and no other
 pub record Exactly (R : ℕ → Type 0) (set : ℕ) : Type 0 where

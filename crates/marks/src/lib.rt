@@ -1,9 +1,11 @@
-// A set of 64 marks, bit n for part n. A number of 64 or more is in no set, and putting it in changes nothing.
+// A set of 64 marks, bit n for part n. A number of 64 or more is in no set, and putting it in changes nothing. Then rows of such sets, one for each
+// part.
 #![tactic(auto)]
 
-ghost use Rattle.std.specs.Prelude.{◌≡◌};
+ghost use Rattle.std.specs.Prelude.{◌≡◌, ◌<◌, IfSome};
 ghost use Rattle.std.specs.Int.Count.{ones};
 ghost use Rattle.marks.specs.Marks.{has_of, union_of, without_of, one_of, insert_of, lowest_of};
+ghost use Rattle.marks.specs.Rows.{with_mark};
 
 pub fn has(set: u64, n: usize) -> bool
     ensures { result ≡ has_of set n }
@@ -50,9 +52,22 @@ pub fn size(set: u64) -> u32
     u64::count_ones(set)
 }
 
-// The lowest mark, or 64 where there is none.
-pub fn lowest(set: u64) -> usize
-    ensures { result ≡ lowest_of set }
+// The lowest mark, where there is one.
+pub fn lowest(set: u64) -> Option<usize>
+    ensures is { result ≡ lowest_of set }
+    ensures below { IfSome result (λ n. n < 64) }
 {
-    u64::trailing_zeros(set) as usize
+    if set == 0 {
+        return None;
+    }
+    Some(u64::trailing_zeros(set) as usize)
+}
+
+// Row p gets mark q, where there is a row p.
+pub fn mark(rows: &mut [u64; 64], p: usize, q: usize)
+    ensures { rows.new ≡ with_mark rows.old p q }
+{
+    if p < 64 {
+        rows[p] = insert(rows[p], q);
+    }
 }

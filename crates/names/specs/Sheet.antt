@@ -1,10 +1,9 @@
 -- 01, Questions: "A name sheet is text, line n for part n, lines parted by byte 10. A label is 1 to 16 bytes from 33 to 126."
 -- Assumes nothing.
-use Rattle.std.specs.Prelude.{ℕ, zero, suc, ◌-◌, List, [], ◌∷◌, Bool, true, false, length, leb, eqb}
+use Rattle.std.specs.Prelude.{ℕ, zero, suc, ◌-◌, List, [], ◌∷◌, Bool, false, length, leb, eqb, Ok}
+use Rattle.std.specs.List.{list_all}
 use Rattle.base.specs.Pick.{pick}
-use Rattle.refusal.specs.declared.Answer.{Answer}
-use Rattle.refusal.specs.declared.Answer.TheVariants.{Done}
-use Rattle.refusal.specs.Refusal.{refusal}
+use Rattle.refusal.specs.Refusal.{Answer, refusal}
 
 -- the line that a text begins with: the bytes before its first byte 10
 unfoldable pub first_line : List ℕ → List ℕ
@@ -29,13 +28,9 @@ line_of s n = first_line (from_line s n)
 unfoldable pub plain : ℕ → Bool
 plain x = pick (leb 33 x) (leb x 126) false
 
-unfoldable pub all_plain : List ℕ → Bool
-all_plain [] = true
-all_plain (x ∷ r) = pick (plain x) (all_plain r) false
-
 -- "1 to 16 bytes"
 unfoldable pub good_label : List ℕ → Bool
-good_label l = pick (leb 1 (length l)) (pick (leb (length l) 16) (all_plain l) false) false
+good_label l = pick (leb 1 (length l)) (pick (leb (length l) 16) (list_all plain l) false) false
 
 -- the whole line where it is a good label, else "an empty stretch"
 unfoldable pub label_of : List ℕ → ℕ → List ℕ
@@ -46,5 +41,5 @@ unfoldable pub label_place : List ℕ → ℕ → ℕ
 label_place s n = pick (good_label (line_of s n)) (length s - length (from_line s n)) 0
 
 -- 20: "sheet has no such line or no good label there", place 0; exactly where the stretch is empty (`label_refused`)
-unfoldable pub label_answer : List ℕ → ℕ → Answer
-label_answer s n = pick (good_label (line_of s n)) Done (refusal 20 0)
+unfoldable pub label_answer : List ℕ → ℕ → Answer Unit
+label_answer s n = pick (good_label (line_of s n)) (Ok tt) (refusal 20 0)

@@ -1,8 +1,9 @@
 // Labels: looked up in a name sheet alone, for any line number, and handed back as that stretch of the sheet.
 #![tactic(auto)]
 
-ghost use Rattle.std.specs.Prelude.{◌≡◌, ◌+◌, ◌-◌, ◌≤◌, length, take, drop};
-ghost use Rattle.names.specs.Sheet.{first_line, from_line, all_plain, plain, label_of, label_place, label_answer};
+ghost use Rattle.std.specs.Prelude.{◌≡◌, ◌==◌, ◌+◌, ◌-◌, ◌≤◌, length, take, drop, position};
+ghost use Rattle.std.specs.List.{list_all};
+ghost use Rattle.names.specs.Sheet.{first_line, from_line, plain, label_of, label_place, label_answer};
 
 use refusal::{Answer, Why};
 
@@ -14,27 +15,23 @@ const LINE_END: u8 = 10;
 fn line_start(sheet: &[u8], line: usize) -> usize
     ensures { (result ≤ length sheet.now) × (drop result sheet.now ≡ from_line sheet.now line) }
 {
-    let mut at: usize = 0;
     let mut left = line;
-    while at < sheet.len() {
+    for at in 0..sheet.len() {
         if left == 0 {
             return at;
         }
-        left = lines_left(left, sheet[at]);
-        at = at + 1;
+        if sheet[at] == LINE_END {
+            left -= 1;
+        }
     }
-    at
+    sheet.len()
 }
 
-// One line fewer past byte 10.
-fn lines_left(left: usize, byte: u8) -> usize
-    ensures { ((byte ≡ 10) → result ≡ left - 1) × ((byte ≡ 10 → ⊥) → result ≡ left) }
+// Where the first line end is.
+fn first_end(text: &[u8]) -> Option<usize>
+    ensures { result ≡ position (λ x. x == 10) text.now }
 {
-    if byte == LINE_END {
-        if 0 < left { left - 1 } else { 0 }
-    } else {
-        left
-    }
+    text.iter().position(|byte| *byte == LINE_END)
 }
 
 // Where the line that begins at `start` ends.
@@ -42,38 +39,25 @@ fn line_end(sheet: &[u8], start: usize) -> usize
     requires { start ≤ length sheet.now }
     ensures { (start ≤ result) × (result ≤ length sheet.now) × (take (result - start) (drop start sheet.now) ≡ first_line (drop start sheet.now)) }
 {
-    let mut at = start;
-    while at < sheet.len() {
-        if sheet[at] == LINE_END {
-            return at;
-        }
-        at = at + 1;
-    }
-    at
+    let rest = &sheet[start..];
+    start + first_end(rest).unwrap_or(rest.len())
 }
 
 fn is_plain(byte: u8) -> bool
     ensures { result ≡ plain byte }
 {
-    if 33 <= byte { byte <= 126 } else { false }
+    33 <= byte && byte <= 126
 }
 
-// Whether all bytes from `start` to `end` are plain.
-fn are_plain(sheet: &[u8], start: usize, end: usize) -> bool
-    requires { (start ≤ end) × (end ≤ length sheet.now) }
-    ensures { result ≡ all_plain (take (end - start) (drop start sheet.now)) }
+// Whether all bytes are plain.
+fn are_plain(text: &[u8]) -> bool
+    ensures { result ≡ list_all plain text.now }
 {
-    let mut at = start;
-    while at < end {
-        if !is_plain(sheet[at]) {
-            return false;
-        }
-        at = at + 1;
-    }
-    true
+    text.iter().all(|byte| is_plain(*byte))
 }
 
 // The label of line `line`, or an empty stretch at refusal 20.
+// Kept: (a) 01 names this form, a part of the caller's sheet or an empty part.
 pub fn label(sheet: &[u8], line: usize) -> &[u8]
     ensures result_value { result.now ≡ label_of sheet.now line }
     ensures ref_ptr_value { result.ref_ptr.0 ≡ sheet.entry.ref_ptr.0 }
@@ -87,7 +71,7 @@ pub fn label(sheet: &[u8], line: usize) -> &[u8]
     if LABEL_MAX < end - start {
         return &sheet[..0];
     }
-    if are_plain(sheet, start, end) {
+    if are_plain(&sheet[start..end]) {
         &sheet[start..end]
     } else {
         &sheet[..0]
@@ -98,12 +82,8 @@ pub fn label(sheet: &[u8], line: usize) -> &[u8]
 pub fn label_answer(sheet: &[u8], line: usize) -> Answer
     ensures { result ≡ label_answer sheet.now line }
 {
-    let found = label(sheet, line);
-    if found.len() == 0 {
-        return Answer::Refused {
-            why: Why::NoLabel,
-            place: 0,
-        };
+    if label(sheet, line).is_empty() {
+        return Err(Why::NoLabel.at(0));
     }
-    Answer::Done
+    Ok(())
 }

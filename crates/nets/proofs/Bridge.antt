@@ -8,7 +8,7 @@ use native.Mathlib.Decide.{dec_lt, ℕ_discrete}
 use Rattle.theory.specs.Sum.{sum, share, into}
 use Rattle.theory.proofs.SumLaws.{sum_ext, sum_zero, sum_split, sum_share, share_eq, share_ne}
 use Rattle.theory.specs.Graph.{Graph, Lawful, Feasible, Slack, Conserves, value}
-use Rattle.nets.specs.Net.{Net}
+use Rattle.nets.specs.Network.{Network}
 use Rattle.nets.specs.Flow.{Fit, Balanced}
 use Rattle.nets.specs.Wired.{Wired, link_arc, entry_arc, exit_arc, times_of, flow_of}
 
@@ -33,7 +33,7 @@ alike k e d g v w f b =
       | no z ↦ share_ne (g l) (λ y. z (f l h y)) ∙ sym (share_ne (g l) z)
     ])
 
-module _ (G : Graph) (o : Lawful G) (N : Net) (w : Wired G N) where
+module _ (G : Graph) (o : Lawful G) (N : Network) (w : Wired G N) where
   open G use {parts, links, from, to}
 
   part_in : (p : ℕ) → p < parts → p < N.arcs

@@ -1,5 +1,4 @@
 pub mod Gains
-pub mod Regions
 pub mod Steps
 pub mod Arcs
 pub mod Bridge

@@ -10,7 +10,7 @@ use borrow.Author.Tests.{lt-ltb, le-ltb}
 use Rattle.theory.specs.Graph.{Graph, Times, Lawful, Feasible, Slack}
 use Rattle.theory.specs.Budget.{NoLater, Held}
 use Rattle.theory.proofs.Earliest.{earliest_held}
-use Rattle.nets.specs.Net.{Net}
+use Rattle.nets.specs.Network.{Network}
 use Rattle.nets.specs.Flow.{Fit, Balanced, First}
 use Rattle.nets.specs.Wired.{Wired, link_arc, entry_arc, exit_arc, times_of, flow_of}
 use Rattle.nets.proofs.Arcs.{each_arc}
@@ -41,7 +41,7 @@ module _ (τ : Times) (T : ℕ) where
   unfolding nodes
   nodes_sink = refl
 
-module _ (G : Graph) (o : Lawful G) (N : Net) (w : Wired G N) (x : ℕ → ℕ) {T : ℕ} {τ : Times} (f : Feasible G T τ) (k : Slack G T τ (flow_of G x)) where
+module _ (G : Graph) (o : Lawful G) (N : Network) (w : Wired G N) (x : ℕ → ℕ) {T : ℕ} {τ : Times} (f : Feasible G T τ) (k : Slack G T τ (flow_of G x)) where
   open G use {parts, links, from, to}
 
   abbrev u : ℕ → ℕ
@@ -114,7 +114,7 @@ module _ (G : Graph) (o : Lawful G) (N : Net) (w : Wired G N) (x : ℕ → ℕ) 
       N.arcs w.arcs
 
 -- ---- the first times
-module _ (G : Graph) (o : Lawful G) (N : Net) (w : Wired G N) (due : ℕ) (x : ℕ → ℕ) where
+module _ (G : Graph) (o : Lawful G) (N : Network) (w : Wired G N) (due : ℕ) (x : ℕ → ℕ) where
   -- the first times that fit are feasible and slack, and with loads that balance they are the budget held
   module _ (t : ℕ → ℕ) (r : First N due x t) where
     pub first_feasible : Feasible G due (times_of G t)

@@ -3,26 +3,28 @@
 -- Assumes nothing.
 use mathlib.Core.Path.{◌≡◌, refl, sym, ap, ◌∙◌}
 use mathlib.Core.Logic.{◌≢◌}
+use mathlib.Core.List.{List}
 use Prim.Native.Nat.{ℕ, zero, suc, ◌+◌, ◌-◌, ◌≤◌, ◌<◌}
 use native.Mathlib.Omega.{arith}
 use native.Mathlib.Decide.{ℕ_discrete}
-use Rattle.theory.specs.Sum.{sum, share, into, More}
+use lib.ListN.{length, set, replicate}
+use lib.Seq.{get_or-set_same, get_or-set_other}
+use Rattle.std.proofs.lemmas.List.{get_or-replicate}
+use Rattle.theory.specs.Sum.{sum, share, into, More, cells}
 use Rattle.theory.proofs.SumLaws.{sum_ext, sum_ge, sum_change, sum_const, share_eq, share_ne, into_more}
-use Rattle.nets.specs.Net.{Net}
+use Rattle.nets.specs.Network.{Network}
 use Rattle.nets.specs.Flow.{Fit, Flows, Lowers, World, First, Never, Sheet}
 use Rattle.nets.specs.Judge.{Rises, Falls, Shrinks, Stretches, Leads, Leads.on, Leads.back, Open}
 use Rattle.nets.specs.Label.{lack, ticks, arc_of, After, Way, Way.on, Way.back, Led, Labels, Fresh}
-use Rattle.nets.specs.Steps.{Moved}
-use Rattle.nets.specs.Steps.{Carried}
-use Rattle.nets.specs.Steps.{left}
+use Rattle.nets.specs.Steps.{Put, Moved, Carried, left}
 
 -- the ends of arcs are nodes
-pub record Ends (N : Net) : Type 0 where
+pub record Ends (N : Network) : Type 0 where
   pub tail_in : (a : ℕ) → a < N.arcs → N.tail a < 130
   pub head_in : (a : ℕ) → a < N.arcs → N.head a < 130
 
 -- ---- one arc fits still
-module _ (N : Net) (t x : ℕ → ℕ) (a : ℕ) (f : Fit N t x a) where
+module _ (N : Network) (t x : ℕ → ℕ) (a : ℕ) (f : Fit N t x a) where
   -- its load has changed
   module _ (x' : ℕ → ℕ) where
     fit_same : x' a ≡ x a → Fit N t x' a
@@ -68,12 +70,15 @@ lack_some : (k : ℕ) → 0 < k → lack k ≡ 0
 lack_some zero h = omega arith
 lack_some (suc k) h = refl
 
--- f' is f but for y at v
-pub record Put (f : ℕ → ℕ) (v y : ℕ) (f' : ℕ → ℕ) : Type 0 where
-  pub here : f' v ≡ y
-  pub there : (w : ℕ) → w ≢ v → f' w ≡ f w
+-- a cell of a list of n cells is put
+pub put_cell : (n : ℕ) (l : List ℕ) (v y : ℕ) → length l ≡ n → v < n → Put (cells l) v y (cells (set l v y))
+put_cell n l v y e h = record { here = get_or-set_same l v y 0 (omega arith); there = λ w d. get_or-set_other l v w y 0 d }
 
-module _ (N : Net) (t x rank via room : ℕ → ℕ) (count : ℕ) (g : Labels N t x rank via room count) (a v d : ℕ)
+-- the cells of a list of n cells are filled
+pub fill_cell : (n : ℕ) (l l' : List ℕ) (y : ℕ) → length l ≡ n → l' ≡ replicate (length l) y → (v : ℕ) → v < n → cells l' v ≡ y
+fill_cell n l l' y e is v h = rw is (get_or-replicate (length l) v y 0 (omega arith))
+
+module _ (N : Network) (t x rank via room : ℕ → ℕ) (count : ℕ) (g : Labels N t x rank via room count) (a v d : ℕ)
     (p : Leads (N.gain a) (arc_of N t x room a) v d) (some : 0 < d) (arc : a < N.arcs) (i : v < 130) (nodes : Ends N) where
   none : Leads (N.gain a) (arc_of N t x room a) v d → room v ≡ 0
   none (on e z m r) = ap room e ∙ z
@@ -146,7 +151,7 @@ module _ (N : Net) (t x rank via room : ℕ → ℕ) (count : ℕ) (g : Labels N
   count_less = omega (arith, g.few, sum_ge 130 (λ w. lack (room w)) v i, lack_none (none p))
 
 -- only the sink
-pub fresh_labels : (N : Net) (t x rank via room : ℕ → ℕ) → Fresh rank room → Labels N t x rank via room 1
+pub fresh_labels : (N : Network) (t x rank via room : ℕ → ℕ) → Fresh rank room → Labels N t x rank via room 1
 fresh_labels N t x rank via room f = record {
   sink = omega (arith, f.sink);
   few =
@@ -162,7 +167,7 @@ fresh_labels N t x rank via room f = record {
 }
 
 -- ---- the labelled nodes go down by d
-module _ (N : Net) (due : ℕ) (w : World N due) (t x rank via room : ℕ → ℕ) (count : ℕ) (nodes : Ends N)
+module _ (N : Network) (due : ℕ) (w : World N due) (t x rank via room : ℕ → ℕ) (count : ℕ) (nodes : Ends N)
     (f : Flows N t x) (g : Labels N t x rank via room count) (source : room 128 ≡ 0) (d : ℕ) (few : d ≤ t 129)
     (opens : (a : ℕ) → a < N.arcs → Open (N.gain a) (arc_of N t x room a) d) where
   -- no labelled node is below d
@@ -233,7 +238,7 @@ module _ (N : Net) (due : ℕ) (w : World N due) (t x rank via room : ℕ → �
     low_sink = goes 129 (omega arith) g.sink
 
 -- ---- load is carried over the arc that a label came along
-module _ (N : Net) (t y rank via room : ℕ → ℕ) (count : ℕ) (g : Labels N t y rank via room count) (nodes : Ends N) (d : ℕ) (some : 0 < d) where
+module _ (N : Network) (t y rank via room : ℕ → ℕ) (count : ℕ) (g : Labels N t y rank via room count) (nodes : Ends N) (d : ℕ) (some : 0 < d) where
   pub carry_begins : Flows N t y → d ≤ room 128 → Carried N t y rank room d y 128
   carry_begins f l = record { node = omega arith; spare = l; near = λ a h i j. refl; fit = f.fit; flow = λ w. refl }
 
@@ -325,7 +330,7 @@ module _ (N : Net) (t y rank via room : ℕ → ℕ) (count : ℕ) (g : Labels N
   }
 
 -- ---- less is left to do
-module _ (N : Net) (due : ℕ) (w : World N due) (t x : ℕ → ℕ) (count : ℕ) where
+module _ (N : Network) (due : ℕ) (w : World N due) (t x : ℕ → ℕ) (count : ℕ) where
   pub left_labelled : (c : ℕ) → count < c → c ≤ 130 → left N t x c < left N t x count
   unfolding left
   left_labelled c l m = omega arith
@@ -347,7 +352,7 @@ module _ (N : Net) (due : ℕ) (w : World N due) (t x : ℕ → ℕ) (count : �
       )
 
 -- ---- loads that agree on the arcs
-module _ (N : Net) (due : ℕ) (x x' : ℕ → ℕ) (same : (a : ℕ) → a < N.arcs → x' a ≡ x a) where
+module _ (N : Network) (due : ℕ) (x x' : ℕ → ℕ) (same : (a : ℕ) → a < N.arcs → x' a ≡ x a) where
   pub first_agrees : (t : ℕ → ℕ) → First N due x t → First N due x' t
   first_agrees t f = record {
     fit = λ a h. fit_same N t x a (f.fit a h) x' (same a h);
@@ -356,7 +361,7 @@ module _ (N : Net) (due : ℕ) (x x' : ℕ → ℕ) (same : (a : ℕ) → a < N.
     least = λ u g l v h. f.least u (λ a i. fit_same N u x' a (g a i) x (sym (same a i))) l v h;
   }
 
-module _ (N : Net) (x x' : ℕ → ℕ) (same : (a : ℕ) → a < N.arcs → x' a ≡ x a) where
+module _ (N : Network) (x x' : ℕ → ℕ) (same : (a : ℕ) → a < N.arcs → x' a ≡ x a) where
   into_agrees : (end : ℕ → ℕ) (v : ℕ) → into N.arcs end x' v ≡ into N.arcs end x v
   unfolding into
   into_agrees end v = sum_ext N.arcs (λ a h. ap (share (end a) v) (same a h))
@@ -368,7 +373,7 @@ module _ (N : Net) (x x' : ℕ → ℕ) (same : (a : ℕ) → a < N.arcs → x' 
   }
 
 -- ---- one verdict on loads
-module _ (N : Net) (due : ℕ) (x : ℕ → ℕ) where
+module _ (N : Network) (due : ℕ) (x : ℕ → ℕ) where
   -- the first times are one
   pub first_once : (t t' : ℕ → ℕ) → First N due x t → First N due x t' → (v : ℕ) → v < 130 → t v ≡ t' v
   first_once t t' f g v h =

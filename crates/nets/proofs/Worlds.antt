@@ -6,13 +6,13 @@ use native.Mathlib.Omega.{arith}
 use native.Mathlib.Decide.{dec_lt}
 use Rattle.theory.specs.Graph.{Graph, Times, Lawful, Feasible, Slack, Conserves, value}
 use Rattle.theory.proofs.ValueBounds.{tops, value_tops, part_value, link_value}
-use Rattle.nets.specs.Net.{Net}
+use Rattle.nets.specs.Network.{Network}
 use Rattle.nets.specs.Flow.{Flows, Lowers, World}
 use Rattle.nets.specs.Wired.{Wired, entry_arc, times_of, flow_of}
 use Rattle.nets.proofs.Arcs.{each_arc}
 use Rattle.nets.proofs.Bridge.{fits_feasible, fits_slack, balanced_conserves, sink_in}
 
-module _ (G : Graph) (o : Lawful G) (N : Net) (w : Wired G N) where
+module _ (G : Graph) (o : Lawful G) (N : Network) (w : Wired G N) where
   open G use {parts, links, from, to}
 
   -- ---- marked nodes that may go down by d are at d at least

@@ -3,7 +3,7 @@
 use Rattle.std.specs.Prelude.{◌≡◌, Bool, true, false, ℕ, ◌+◌, ◌-◌, ◌≤◌, ◌<◌}
 use Rattle.theory.specs.Sum.{into}
 use Rattle.theory.specs.Saving.{Suits}
-use Rattle.nets.specs.Net.{Net}
+use Rattle.nets.specs.Network.{Network}
 
 module _ (arcs : ℕ) (tail head : ℕ → ℕ) where
   -- what comes to a node and what goes from it
@@ -22,7 +22,7 @@ module _ (arcs : ℕ) (tail head : ℕ → ℕ) where
     pub small : (a : ℕ) → a < arcs → x a ≤ 64000
     pub balanced : Balanced x
 
-module _ (N : Net) where
+module _ (N : Network) where
   -- the ticks between an arc's ends, past its base, suit its load
   pub record Fit (t x : ℕ → ℕ) (a : ℕ) : Type 0 where
     pub base : t (N.tail a) + N.base a ≤ t (N.head a)

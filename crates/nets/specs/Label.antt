@@ -3,7 +3,7 @@
 -- Assumes nothing.
 use Rattle.std.specs.Prelude.{◌≡◌, ◌≢◌, ℕ, zero, suc, ◌+◌, ◌-◌, ◌≤◌, ◌<◌}
 use Rattle.theory.specs.Sum.{sum}
-use Rattle.nets.specs.Net.{Net}
+use Rattle.nets.specs.Network.{Network}
 use Rattle.nets.specs.Judge.{Rises, Falls}
 use Rattle.nets.specs.declared.Arc.{Arc}
 
@@ -12,7 +12,7 @@ abbrev pub lack : ℕ → ℕ
 lack zero = 1
 lack (suc k) = 0
 
-module _ (N : Net) (t : ℕ → ℕ) where
+module _ (N : Network) (t : ℕ → ℕ) where
   -- the ticks of arc a past its base
   abbrev pub ticks : ℕ → ℕ
   ticks a = t (N.head a) - (t (N.tail a) + N.base a)

@@ -1,10 +1,8 @@
-pub mod Net
+pub mod Network
 pub mod Flow
 pub mod Wired
 pub mod Judge
 pub mod Label
 pub mod Steps
-pub mod Layout
-pub mod Region
 pub mod Crash
 pub mod Sheet

@@ -3,7 +3,7 @@
 -- Assumes nothing.
 use Rattle.std.specs.Prelude.{◌≡◌, ℕ, ◌+◌, ◌-◌, ◌≤◌, ◌<◌}
 use Rattle.theory.specs.Graph.{Graph, Times, Flow}
-use Rattle.nets.specs.Net.{Net}
+use Rattle.nets.specs.Network.{Network}
 
 module _ (G : Graph) where
   abbrev pub link_arc : ℕ → ℕ
@@ -16,7 +16,7 @@ module _ (G : Graph) where
   exit_arc p = G.parts + (G.links + (G.parts + p))
 
   -- the arcs of the graph: a part is as long as its fastest delay and saves what its ticks save; no other arc saves anything
-  pub record Wired (N : Net) : Type 0 where
+  pub record Wired (N : Network) : Type 0 where
     pub parts : G.parts ≤ 64
     pub arcs : N.arcs ≡ G.parts + (G.links + (G.parts + G.parts))
     pub part_tail : (p : ℕ) → p < G.parts → N.tail p ≡ p

@@ -1,8 +1,9 @@
 // Reads and writes numbers at every boundary (01, Files; refusals 1 and 2) and prints a line for each.
 #![tactic(auto)]
 
-use console::{Out, PAGE};
+use console::Out;
 use groups::{GROUPS, Read};
+use refusal::Answer;
 use std::io::Result;
 
 // Room for any number with bytes on both sides, and with one byte before it.
@@ -10,93 +11,64 @@ const WIDE: usize = GROUPS + 3;
 
 const TIGHT: usize = GROUPS + 1;
 
-fn put_bytes(out: &mut Out, page: &mut [u8; PAGE], at: usize, s: &[u8]) -> usize {
-    let mut end = at;
-    let mut i: usize = 0;
-    while i < s.len() {
-        end = console::number(out, page, end, b" ", wide(s[i]));
-        i = i + 1;
+fn put_bytes(out: &mut Out, s: &[u8]) {
+    for byte in s {
+        out.number(b" ", *byte as u64);
     }
-    end
-}
-
-fn wide(x: u8) -> u64 {
-    x as u64
-}
-
-// Ends the line and writes it.
-fn print_line(out: &mut Out, page: &mut [u8; PAGE], at: usize) {
-    let end = console::end_line(out, page, at);
-    console::write_out(out, page, end);
 }
 
 // What is read at a place.
 fn read(out: &mut Out, s: &[u8], at: usize) {
-    let mut page = [0u8; PAGE];
-    let named = console::text(out, &mut page, 0, b"read");
-    let shown = put_bytes(out, &mut page, named, s);
-    let placed = console::number(out, &mut page, shown, b" at ", at as u64);
-    let end = put_read(out, &mut page, placed, groups::read_number(s, at));
-    print_line(out, &mut page, end);
+    out.text(b"read");
+    put_bytes(out, s);
+    out.number(b" at ", at as u64);
+    put_read(out, groups::read_number(s, at));
+    out.print_line();
 }
 
-fn put_read(out: &mut Out, page: &mut [u8; PAGE], at: usize, read: Read) -> usize {
+fn put_read(out: &mut Out, read: Answer<Read<u32>>) {
     match read {
-        Read::Number { value, next } => {
-            let valued = console::number(out, page, at, b": number ", value as u64);
-            console::number(out, page, valued, b" next ", next as u64)
+        Ok(number) => {
+            out.number(b": number ", number.value as u64);
+            out.number(b" next ", number.next as u64);
         }
-        Read::Refused { why, place } => {
-            let refused = console::number(
-                out,
-                page,
-                at,
-                b": refused ",
-                refusal::number(why) as u64,
-            );
-            console::number(out, page, refused, b" place ", place as u64)
+        Err(refusal) => {
+            out.number(b": refused ", u8::from(refusal.why) as u64);
+            out.number(b" place ", refusal.place as u64);
         }
     }
 }
 
 // What is read at each place, at the end, and at the greatest place there is.
 fn read_places(out: &mut Out, s: &[u8]) {
-    let mut at: usize = 0;
-    while at < s.len() {
+    for at in 0..=s.len() {
         read(out, s, at);
-        at = at + 1;
     }
-    read(out, s, s.len());
-    read(out, s, 18446744073709551615);
+    read(out, s, usize::MAX);
 }
 
 // What is read of each prefix.
 fn read_prefixes(out: &mut Out, s: &[u8]) {
-    let mut k: usize = 0;
-    while k < s.len() {
+    for k in 0..=s.len() {
         read(out, &s[..k], 0);
-        k = k + 1;
     }
-    read(out, s, 0);
 }
 
 // What a buffer holds after a number is written at a place of it.
 fn write(out: &mut Out, buf: &mut [u8], at: usize, n: u32) {
     let next = groups::write_number(buf, at, n);
-    let mut page = [0u8; PAGE];
-    let named = console::number(out, &mut page, 0, b"write ", n as u64);
-    let placed = console::number(out, &mut page, named, b" at ", at as u64);
-    let ended = console::number(out, &mut page, placed, b": next ", next as u64);
-    let bytes = console::text(out, &mut page, ended, b" bytes");
-    let end = put_bytes(out, &mut page, bytes, buf);
-    print_line(out, &mut page, end);
+    out.number(b"write ", n as u64);
+    out.number(b" at ", at as u64);
+    out.number(b": next ", next as u64);
+    out.text(b" bytes");
+    put_bytes(out, buf);
+    out.print_line();
 }
 
 fn print_size(out: &mut Out, n: u32) {
-    let mut page = [0u8; PAGE];
-    let named = console::number(out, &mut page, 0, b"number ", n as u64);
-    let sized = console::number(out, &mut page, named, b" size ", groups::size(n) as u64);
-    print_line(out, &mut page, sized);
+    out.number(b"number ", n as u64);
+    out.number(b" size ", groups::size(n) as u64);
+    out.print_line();
 }
 
 // A number: its size; written with bytes on both sides, and read back; written where there is little room, or none.
@@ -105,14 +77,12 @@ fn number(out: &mut Out, n: u32) {
     let mut wide_buffer = [9u8; WIDE];
     write(out, &mut wide_buffer, 2, n);
     read(out, &wide_buffer, 2);
-    let mut k: usize = 0;
-    while k <= TIGHT {
+    for k in 0..=TIGHT {
         let mut buffer = [9u8; TIGHT];
         write(out, &mut buffer[..k], 1, n);
-        k = k + 1;
     }
     let mut last = [9u8; TIGHT];
-    write(out, &mut last, 18446744073709551615, n);
+    write(out, &mut last, usize::MAX, n);
 }
 
 // The prefixes of a number's form.
@@ -124,17 +94,15 @@ fn form(out: &mut Out, n: u32) {
 }
 
 fn main(rt: HostRuntime) -> Result<()> {
-    let mut out = console::standard_out(&rt);
+    let mut out = Out::standard(&rt);
     let boundaries: [u32; 12] = [
         0, 1, 127, 128, 16383, 16384, 2097151, 2097152, 20000000, 20000001, 268435455, 268435456,
     ];
-    let mut i: usize = 0;
-    while i < 12 {
-        number(&mut out, boundaries[i]);
-        form(&mut out, boundaries[i]);
-        i = i + 1;
+    for n in boundaries {
+        number(&mut out, n);
+        form(&mut out, n);
     }
-    number(&mut out, 4294967295);
+    number(&mut out, u32::MAX);
     read_places(&mut out, b"\x80\x00");
     read_places(&mut out, b"\xff\x00");
     read_places(&mut out, b"\x80\x80\x00");
@@ -148,5 +116,5 @@ fn main(rt: HostRuntime) -> Result<()> {
     read_prefixes(&mut out, b"\xff\xff\xff\x7f");
     read_prefixes(&mut out, b"\x80\x80\x80\x80\x01");
     read_prefixes(&mut out, b"\x80\x80\x80\x00");
-    console::outcome(out)
+    out.outcome()
 }

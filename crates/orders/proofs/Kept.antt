@@ -1,20 +1,19 @@
 -- What was read does not depend on the bytes after it: a number, a field, a run, a curve, an order.
 -- Assumes nothing.
-use mathlib.Core.Path.{◌≡◌, ap}
+use mathlib.Core.Path.{◌≡◌}
 use mathlib.Core.Bool.{Bool, true, false}
 use mathlib.Core.List.{List, ◌++◌}
 use Prim.Native.Nat.{ℕ, zero, suc}
 use Rattle.base.specs.Pick.{pick}
-use Rattle.groups.specs.declared.Read.TheVariants.{Number}
 use Rattle.groups.specs.Number.{number_at}
 use Rattle.groups.proofs.NumberLaws.{number_kept}
 use Rattle.curve.specs.declared.Curve.{Curve}
 use Rattle.curve.specs.Curve.{power_max}
-use Rattle.fields.specs.Parse.{Parse, got, and_then, repeat, number, field_at}
+use Rattle.groups.specs.Parse.{Parse, got}
+use Rattle.fields.specs.Parse.{and_then, repeat, field_at}
 use Rattle.fields.specs.CurveFile.{bare, run_from, runs_from, curve_from}
-use Rattle.fields.proofs.ParseLaws.{number_once, then_got, field_got, field_reads}
-use Rattle.orders.specs.declared.Change.{Change}
-use Rattle.orders.specs.declared.Change.TheVariants.{AddLink, RemoveLink}
+use Rattle.fields.proofs.ParseLaws.{then_got, field_got, field_reads}
+use Rattle.orders.specs.declared.Order.TheVariants.{AddLink, RemoveLink}
 use Rattle.orders.specs.declared.Order.{Order}
 use Rattle.orders.specs.Order.{deadline_from, link_from, new_curve_from, kind_from, order_of}
 
@@ -37,8 +36,8 @@ same_kept : {A : Type 0} (p : Parse A) → Keeps p p
 same_kept p a n is = is
 
 module _ (s post : List ℕ) where
-  kind_number_kept : Keeps (number (number_at s 0)) (number (number_at (s ++ post) 0))
-  kind_number_kept v n is = ap number (number_kept s post 0 v n (number_once (number_at s 0) (Number v n) is))
+  kind_number_kept : Keeps (number_at s 0) (number_at (s ++ post) 0)
+  kind_number_kept v n is = number_kept s post 0 v n is
 
   field_kept : (low high at : ℕ) → Keeps (field_at s low high at) (field_at (s ++ post) low high at)
   field_kept low high at v n is =
@@ -61,9 +60,9 @@ module _ (s post : List ℕ) where
       then_kept _ _ _ _ (field_kept 0 power_max at₁) (λ power at₂.
       then_kept _ _ _ _ (field_kept 0 4 at₂) (λ count at₃. then_kept _ _ _ _ (runs_kept (bare fastest power count) at₃ count) (λ c next. same_kept _))))
 
-  link_kept : (change : ℕ → ℕ → Change) (at : ℕ) → Keeps (link_from change s at) (link_from change (s ++ post) at)
+  link_kept : (order : ℕ → ℕ → Order) (at : ℕ) → Keeps (link_from order s at) (link_from order (s ++ post) at)
   unfolding link_from
-  link_kept change at = then_kept _ _ _ _ (field_kept 0 63 at) (λ from at₁. then_kept _ _ _ _ (field_kept 0 63 at₁) (λ to next. same_kept _))
+  link_kept order at = then_kept _ _ _ _ (field_kept 0 63 at) (λ from at₁. then_kept _ _ _ _ (field_kept 0 63 at₁) (λ to next. same_kept _))
 
   kind_kept : (kind at : ℕ) → Keeps (kind_from s kind at) (kind_from (s ++ post) kind at)
   unfolding kind_from deadline_from new_curve_from

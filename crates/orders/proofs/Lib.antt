@@ -1,4 +1,3 @@
-pub mod Ways
 pub mod Writers
 pub mod OrderLaws
 pub mod Kept

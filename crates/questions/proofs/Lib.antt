@@ -1,3 +1,2 @@
-pub mod Ways
 pub mod Answering
 pub mod QuestionLaws

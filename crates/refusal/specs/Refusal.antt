@@ -1,10 +1,9 @@
--- The table of refusals: their numbers. A refusal's place stands beside it in each answer. Every promise names a refusal by its number (`by`, `refusal`),
--- so that it can be held side by side with 01's table.
+-- The table of refusals: their numbers. A refusal's place stands beside it. Every promise names a refusal by its number (`by`, `refusal`), so that it
+-- can be held side by side with 01's table.
 -- Assumes nothing.
-use Rattle.std.specs.Prelude.{Bool, true, false, List, [], ◌∷◌, ℕ, ◌-◌, eqb, get_or}
+use Rattle.std.specs.Prelude.{Bool, true, false, List, [], ◌∷◌, ℕ, ◌-◌, eqb, get_or, Result, Err}
 use Rattle.base.specs.Pick.{pick}
-use Rattle.refusal.specs.declared.Answer.{Answer}
-use Rattle.refusal.specs.declared.Answer.TheVariants.{Refused}
+use Rattle.refusal.specs.declared.Refusal.{Refusal}
 use Rattle.refusal.specs.declared.Why.{Why}
 use Rattle.refusal.specs.declared.Why.TheVariants.{
   CutShort,
@@ -91,8 +90,18 @@ abbrev pub by : ℕ → Why
 by number = get_or rows (number - 1) NoLabel
 
 -- "Each refusal gives its number and a place."
-abbrev pub refusal : ℕ → ℕ → Answer
-refusal number place = Refused (by number) place
+abbrev pub refusal_at : Why → ℕ → Refusal
+refusal_at why place = record { why = why; place = place }
+
+-- what a call comes to: what it gives, or its refusal
+abbrev pub Answer : Type 0 → Type 0
+Answer A = Result A Refusal
+
+abbrev pub refused : {A : Type 0} → Why → ℕ → Answer A
+refused why place = Err (refusal_at why place)
+
+abbrev pub refusal : {A : Type 0} → ℕ → ℕ → Answer A
+refusal number place = refused (by number) place
 
 -- a number is one of these
 unfoldable pub among : ℕ → List ℕ → Bool

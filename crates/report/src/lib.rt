@@ -1,45 +1,31 @@
-// Lines that several programs print: an answer, a path, what a budget gives a part. The text goes on a page that is lent (`console`), and
-// what comes back is how far it is filled.
+// Lines that several programs print: an answer, a path, what a budget gives a part.
 #![tactic(auto)]
 
-use console::{Out, PAGE};
+use console::Out;
 use curve::{Microwatts, Ticks};
-use refusal::{Answer, Why};
+use refusal::{Answer, Refusal};
 use slow::Trail;
 
 // The number and the place of an answer; both are 0 where nothing is refused.
-pub fn put_answer(out: &mut Out, page: &mut [u8; PAGE], at: usize, answer: Answer) -> usize {
+pub fn put_answer(out: &mut Out, answer: Answer) {
     match answer {
-        Answer::Done => console::text(out, page, at, b" no 0 place 0"),
-        Answer::Refused { why, place } => put_refused(out, page, at, why, place),
+        Ok(()) => out.text(b" no 0 place 0"),
+        Err(refusal) => put_refused(out, refusal),
     }
 }
 
 // The number and the place of a refusal.
-pub fn put_refused(
-    out: &mut Out,
-    page: &mut [u8; PAGE],
-    at: usize,
-    why: Why,
-    place: usize,
-) -> usize {
-    let end = console::number(out, page, at, b" no ", refusal::number(why) as u64);
-    console::number(out, page, end, b" place ", place as u64)
+pub fn put_refused(out: &mut Out, refusal: Refusal) {
+    out.number(b" no ", u8::from(refusal.why) as u64);
+    out.number(b" place ", refusal.place as u64);
 }
 
 // How many parts a path has, and then the parts; there is room for 64.
-pub fn put_path(out: &mut Out, page: &mut [u8; PAGE], at: usize, path: Trail) -> usize {
-    let count = path.count;
-    let mut end = console::number(out, page, at, b" path ", count as u64);
-    let mut k: usize = 0;
-    while k < 64 {
-        if count <= k {
-            return end;
-        }
-        end = console::number(out, page, end, b" ", path.parts[k] as u64);
-        k = k + 1;
+pub fn put_path(out: &mut Out, path: Trail) {
+    out.number(b" path ", path.count as u64);
+    for part in &path.parts[..path.count.min(64)] {
+        out.number(b" ", *part as u64);
     }
-    end
 }
 
 // A part's times and power in a budget, as one line.
@@ -52,11 +38,11 @@ pub struct Row {
     pub power: Microwatts,
 }
 
-pub fn put_row(out: &mut Out, page: &mut [u8; PAGE], at: usize, row: Row) -> usize {
-    let named = console::number(out, page, at, b"part ", row.part as u64);
-    let started = console::number(out, page, named, b" start ", row.start.0 as u64);
-    let delayed = console::number(out, page, started, b" delay ", row.delay.0 as u64);
-    let ended = console::number(out, page, delayed, b" end ", row.end.0 as u64);
-    let powered = console::number(out, page, ended, b" power ", row.power.0 as u64);
-    console::end_line(out, page, powered)
+pub fn put_row(out: &mut Out, row: Row) {
+    out.number(b"part ", row.part as u64);
+    out.number(b" start ", row.start.0 as u64);
+    out.number(b" delay ", row.delay.0 as u64);
+    out.number(b" end ", row.end.0 as u64);
+    out.number(b" power ", row.power.0 as u64);
+    out.end_line();
 }

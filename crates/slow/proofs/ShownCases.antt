@@ -5,6 +5,7 @@ use mathlib.Core.List.{List, [], ◌∷◌}
 use Prim.Native.Nat.{ℕ, zero, suc, ◌<◌}
 use native.Mathlib.Omega.{arith}
 use lib.ListN.{replicate}
+use Rattle.std.specs.Prelude.{Option}
 use Rattle.theory.specs.Sum.{share, cells}
 use Rattle.theory.specs.Budget.{greatest, arrive}
 use Rattle.curve.specs.declared.Run.{Run}
@@ -110,7 +111,7 @@ slow_K = record {
   over = omega arith;
 }
 
-pub case_9 : Loopless board_K → (r : ShownPath) → SlowOf board_K r → r ≡ shown 10 (0 ∷ 3 ∷ 1 ∷ 2 ∷ [])
+pub case_9 : Loopless board_K → (r : Option ShownPath) → SlowOf board_K r → r ≡ shown 10 (0 ∷ 3 ∷ 1 ∷ 2 ∷ [])
 case_9 ok r s = slow_once board_K ok r (shown 10 (0 ∷ 3 ∷ 1 ∷ 2 ∷ [])) s (exceeded slow_K refl)
 
 -- ---- case (7)
@@ -140,5 +141,5 @@ slow_1 = record {
   over = omega arith;
 }
 
-pub case_7 : Loopless board1 → (r : ShownPath) → SlowOf board1 r → r ≡ shown 5 (0 ∷ [])
+pub case_7 : Loopless board1 → (r : Option ShownPath) → SlowOf board1 r → r ≡ shown 5 (0 ∷ [])
 case_7 ok r s = slow_once board1 ok r (shown 5 (0 ∷ [])) s (exceeded slow_1 refl)

@@ -2,11 +2,12 @@
 -- the one shown; and the answer says so exactly where no budget at all is allowed.
 -- Assumes nothing.
 use mathlib.Core.Path.{◌≡◌, refl, sym, ap, ◌∙◌}
-use mathlib.Core.Bool.{Bool, true, false}
-use mathlib.Core.List.{List, ◌++◌}
-use Prim.Native.Nat.{ℕ, ◌-◌, ◌≤◌, ◌<◌}
+use mathlib.Core.List.{List}
+use Prim.Native.Nat.{ℕ, ◌≤◌, ◌<◌}
 use native.Mathlib.Omega.{arith}
-use lib.ListN.{length, get_or, replicate}
+use lib.ListN.{get_or}
+use Rattle.std.specs.Prelude.{Option, Some, None, IsSome}
+use Rattle.slow.specs.Walk.{trail_of}
 use Rattle.theory.specs.Graph.{Times}
 use Rattle.theory.specs.Budget.{Budget}
 use Rattle.theory.proofs.TimedLaws.{timed_once, possible}
@@ -14,7 +15,7 @@ use Rattle.board.specs.declared.Board.{Board}
 use Rattle.board.specs.Board.{usable, view}
 use Rattle.board.proofs.Lawful.{lawful}
 use Rattle.slow.specs.declared.ShownPath.{ShownPath}
-use Rattle.slow.specs.Slow.{PathTo, First, Walked, Loopless, FastestEnds, InTime, SlowPath, TooSlow, shown, path_in_time, SlowOf, kept, exceeded}
+use Rattle.slow.specs.Slow.{PathTo, First, Walked, Loopless, FastestEnds, InTime, SlowPath, TooSlow, shown, SlowOf, kept, exceeded}
 use Rattle.slow.proofs.PathLaws.{path_in, path_le, walked_path, walked_first, last_once, walked_once}
 
 -- the path that an answer shows: its ticks are the place, no path takes more, and its first part has none before it
@@ -22,14 +23,10 @@ pub record Shows (b : Board) (r : ShownPath) : Type 0 where
   pub part : ℕ
   pub path : List ℕ
   pub is : PathTo (view b) part path r.ticks
-  pub count : r.count ≡ length path
-  pub listed : r.path ≡ path ++ replicate (64 - length path) 0
+  pub listed : r.path ≡ trail_of path
   pub begins : First (view b) (get_or path 0 0)
   pub over : usable b < r.ticks
   pub slowest : (p : ℕ) (other : List ℕ) (ticks : ℕ) → PathTo (view b) p other ticks → ticks ≤ r.ticks
-
-never : {A : Type 0} {t : Bool} → t ≡ false → t ≡ true → A
-never off on = absurd (let z : ◌≡◌ {A = ℕ} 0 1 = cc in omega arith)
 
 module _ (b : Board) (ok : Loopless b) where
   ends_once : {e e' : ℕ → ℕ} → FastestEnds b e → FastestEnds b e' → (p : ℕ) → p < (view b).parts → e p ≡ e' p
@@ -57,7 +54,7 @@ module _ (b : Board) (ok : Loopless b) where
       walked_once (view b) (lawful b ok.formed) same (rw part at w) y.walked
 
   -- two answers allowed are one
-  pub slow_once : (r r' : ShownPath) → SlowOf b r → SlowOf b r' → r ≡ r'
+  pub slow_once : (r r' : Option ShownPath) → SlowOf b r → SlowOf b r' → r ≡ r'
   slow_once r r' (kept k is) (kept k' is') = is ∙ sym is'
   slow_once r r' (kept k is) (exceeded x' is') = in_time_not_slow k x'
   slow_once r r' (exceeded x is) (kept k' is') = in_time_not_slow k' x
@@ -82,22 +79,12 @@ module _ (b : Board) (ok : Loopless b) where
       absurd
       (omega (arith, (possible (view b) (lawful b ok.formed) x.ends.timed).0 (τ, budget) x.part x.last.here, x.place, x.over))
 
-  module _ (r : ShownPath) where
-    slow_no : r ≡ path_in_time → r.slow ≡ false
-    unfolding path_in_time
-    slow_no is = ap (λ (x : ShownPath). x.slow) is
-
-    slow_yes : (ticks : ℕ) (path : List ℕ) → r ≡ shown ticks path → r.slow ≡ true
-    unfolding shown
-    slow_yes ticks path is = ap (λ (x : ShownPath). x.slow) is
-
-    shows : {ticks : ℕ} {path : List ℕ} → SlowPath b ticks path → r ≡ shown ticks path → Shows b r
-    unfolding shown
-    shows {path = path} x is = rw is (record {
+  module _ (r : Option ShownPath) where
+    shows : {ticks : ℕ} {path : List ℕ} → SlowPath b ticks path → Shows b (record { ticks = ticks; path = trail_of path })
+    shows {path = path} x = record {
       part = x.part;
       path = path;
       is = slow_path_is x;
-      count = refl;
       listed = refl;
       begins = walked_first (view b) (lawful b ok.formed) x.walked;
       over = x.over;
@@ -108,24 +95,28 @@ module _ (b : Board) (ok : Loopless b) where
             x.last.greatest q (path_in (view b) (lawful b ok.formed) x.ends.timed way),
             x.place,
           );
-    })
+    }
 
-    -- where the answer says so, it shows a path too slow at its fastest
-    pub slow_shows : SlowOf b r → r.slow ≡ true → Shows b r
-    slow_shows (kept k is) told = never (slow_no is) told
-    slow_shows (exceeded x is) told = shows x is
+    -- the path that the answer shows is too slow at its fastest
+    pub slow_shows : SlowOf b r → (s : ShownPath) → r ≡ Some s → Shows b s
+    unfolding shown
+    slow_shows (kept k is) s told = absurd (cc)
+    slow_shows (exceeded {ticks = ticks} {path = path} x is) s told =
+        let same : record { ticks = ticks; path = trail_of path } ≡ s = cc in
+        rw same at (shows x)
 
-    -- and where there is such a path, the answer says so
-    pub path_slow : SlowOf b r → TooSlow b → r.slow ≡ true
+    -- and where there is such a path, the answer shows one
+    pub path_slow : SlowOf b r → TooSlow b → IsSome r
+    unfolding shown
     path_slow (kept k is) way = in_time_no_path k way
-    path_slow (exceeded {ticks = ticks} {path = path} x is) way = slow_yes ticks path is
+    path_slow (exceeded x is) way = rw is refl
 
     -- a board is refused for time exactly where no budget is allowed
-    pub budget_in_time : SlowOf b r → {τ : Times} → Budget (view b) (usable b) τ → r.slow ≡ false
-    budget_in_time (kept k is) budget = slow_no is
+    pub budget_in_time : SlowOf b r → {τ : Times} → Budget (view b) (usable b) τ → r ≡ None
+    budget_in_time (kept k is) budget = is
     budget_in_time (exceeded x is) budget = budget_not_slow budget x
 
-    pub in_time_budget : SlowOf b r → r.slow ≡ false → (τ : Times) × Budget (view b) (usable b) τ
-    unfolding view
+    pub in_time_budget : SlowOf b r → r ≡ None → (τ : Times) × Budget (view b) (usable b) τ
+    unfolding view shown
     in_time_budget (kept k is) told = (possible (view b) (lawful b ok.formed) k.ends.timed).1 k.within
-    in_time_budget (exceeded {ticks = ticks} {path = path} x is) told = never told (slow_yes ticks path is)
+    in_time_budget (exceeded x is) told = absurd (cc)

@@ -1,11 +1,10 @@
 -- What the loops find: the last part, and the steps back.
 -- Assumes nothing.
 use mathlib.Core.Path.{◌≡◌, refl, sym, ap, ◌∙◌}
-use mathlib.Core.Logic.{⊎_elim}
+use mathlib.Core.Logic.{inl, inr, ⊎_elim}
 use mathlib.Core.List.{List}
 use Prim.Native.Nat.{ℕ, zero, suc, min, ◌+◌, ◌≤◌, ◌<◌}
 use native.Mathlib.Omega.{arith}
-use lib.Dec.{eqb}
 use lib.ListN.{get_or}
 use borrow.Author.Tests.{lt-ltb, le-ltb, eq-eqb, ne_eqb}
 use Rattle.base.specs.Pick.{pick}
@@ -21,7 +20,8 @@ use Rattle.board.specs.declared.Link.{Link}
 use Rattle.board.specs.declared.Board.{Board}
 use Rattle.board.specs.Board.{no_link, link_at, view, WellFormed, delay_of}
 use Rattle.slow.specs.Slow.{First, LastPart, StepBack}
-use Rattle.slow.specs.Walk.{last_of, back_of}
+use Rattle.std.specs.Prelude.{Option, Some, None}
+use Rattle.slow.specs.Walk.{last_of, lower_of, back_of}
 
 -- ---- the last part
 module _ (e : List Ticks) where
@@ -98,68 +98,83 @@ arrival G e p h =
 
 -- ---- the steps back
 module _ (link : List Link) (s e : List Ticks) (p : ℕ) where
-  -- the k-th link's part, if it arrives at p's start
-  abbrev candidate : ℕ → ℕ
-  candidate k = let l = get_or link k no_link in pick (eqb l.to p) (pick (eqb (ticks_at e l.from + delay_of l) (ticks_at s p)) l.from 64) 64
+  -- the k-th link's part arrives at p's start
+  abbrev Arrives : ℕ → Type 0
+  Arrives k = ticks_at e (get_or link k no_link).from + delay_of (get_or link k no_link) ≡ ticks_at s p
 
-  record Awaits (k q : ℕ) : Type 0 where
+  pub record Awaits (k q : ℕ) : Type 0 where
     pub at : ℕ
     pub here : at < k
     pub from : (get_or link at no_link).from ≡ q
     pub to : (get_or link at no_link).to ≡ p
     pub is : ticks_at e q + delay_of (get_or link at no_link) ≡ ticks_at s p
 
-  back_suc : (k : ℕ) → back_of link s e (suc k) p ≡ min (back_of link s e k p) (candidate k)
-  unfolding back_of
-  back_suc k = refl
+  longer : (k q : ℕ) → Awaits k q → Awaits (suc k) q
+  longer k q a = record { at = a.at; here = omega (arith, a.here); from = a.from; to = a.to; is = a.is }
 
-  candidate_hit : (k : ℕ) → (get_or link k no_link).to ≡ p → ticks_at e (get_or link k no_link).from + delay_of (get_or link k no_link) ≡ ticks_at s p
-      → candidate k ≡ (get_or link k no_link).from
-  unfolding pick
-  candidate_hit k to is = rw (eq-eqb _ _ to, eq-eqb _ _ is)
+  -- what is found among the first k links
+  Searched : ℕ → Option ℕ → Type 0
+  Searched k None = (l : ℕ) → l < k → (get_or link l no_link).to ≡ p → Arrives l → ⊥
+  Searched k (Some q) = Awaits k q × ((l : ℕ) → l < k → (get_or link l no_link).to ≡ p → Arrives l → q ≤ (get_or link l no_link).from)
 
-  candidate_is : (k : ℕ) → candidate k < 64 → Awaits (suc k) (candidate k)
-  unfolding pick
-  candidate_is k h =
+  searched_hit : (k : ℕ) (o : Option ℕ) → Searched k o → (get_or link k no_link).to ≡ p → Arrives k → Searched (suc k) (lower_of o (get_or link k no_link).from)
+  unfolding Searched
+  searched_hit k None none to is = (
+    record { at = k; here = omega arith; from = refl; to = to; is = is },
+    below_suc (λ l h t i. absurd (none l h t i)) (λ t i. omega arith),
+  )
+  searched_hit k (Some q) found to is =
+      let f = (get_or link k no_link).from in
+      ⊎_elim
+      (λ (h : q ≤ f).
+      let same : min q f ≡ q = omega arith in
+      rw same (longer k q found.0, below_suc found.1 (λ t i. h)))
+      (λ (h : f < q).
+      let same : min q f ≡ f = omega arith in
+      rw same (record { at = k; here = omega arith; from = refl; to = to; is = is }, below_suc (λ l j t i. omega (arith, found.1 l j t i)) (λ t i. omega arith)))
+      (⊎_elim (λ (h : q < f). inl (omega arith)) (λ (h : f ≤ q). ⊎_elim (λ (e : q ≡ f). inl (omega arith)) (λ (d : q ≡ f → ⊥). inr (omega arith)) (eq_or_ne q f)) (lt_or_le q f))
+
+  searched_miss : (k : ℕ) (o : Option ℕ) → Searched k o → ((get_or link k no_link).to ≡ p → Arrives k → ⊥) → Searched (suc k) o
+  unfolding Searched
+  searched_miss k None none miss = below_suc none miss
+  searched_miss k (Some q) found miss = (longer k q found.0, below_suc found.1 (λ t i. absurd (miss t i)))
+
+  searched_none : Searched 0 None
+  unfolding Searched
+  searched_none = λ l h. absurd (omega arith)
+
+  searched : (k : ℕ) → Searched k (back_of link s e k p)
+  unfolding back_of pick
+  searched zero = searched_none
+  searched (suc k) =
+      let o = back_of link s e k p in
       ⊎_elim
       (λ (to : (get_or link k no_link).to ≡ p).
       ⊎_elim
-      (λ (is : ticks_at e (get_or link k no_link).from + delay_of (get_or link k no_link) ≡ ticks_at s p).
-      rw (candidate_hit k to is) (record { at = k; here = omega arith; from = refl; to = to; is = is }))
-      (λ (d : ticks_at e (get_or link k no_link).from + delay_of (get_or link k no_link) ≡ ticks_at s p → ⊥). absurd (missed (rw (eq-eqb _ _ to, ne_eqb _ _ d))))
+      (λ (is : Arrives k). rw (eq-eqb _ _ to, eq-eqb _ _ is) (searched_hit k o (searched k) to is))
+      (λ (d : Arrives k → ⊥). rw (eq-eqb _ _ to, ne_eqb _ _ d) (searched_miss k o (searched k) (λ t i. d i)))
       (eq_or_ne (ticks_at e (get_or link k no_link).from + delay_of (get_or link k no_link)) (ticks_at s p)))
-      (λ (d : (get_or link k no_link).to ≡ p → ⊥). absurd (missed (rw (ne_eqb _ _ d))))
+      (λ (d : (get_or link k no_link).to ≡ p → ⊥). rw (ne_eqb _ _ d) (searched_miss k o (searched k) (λ t i. d t)))
       (eq_or_ne (get_or link k no_link).to p)
-    where
-      missed : candidate k ≡ 64 → ⊥
-      missed q = omega arith
 
-  back_le : (k l : ℕ) → l < k → (get_or link l no_link).to ≡ p → ticks_at e (get_or link l no_link).from + delay_of (get_or link l no_link) ≡ ticks_at s p
-      → back_of link s e k p ≤ (get_or link l no_link).from
-  back_le zero = λ l h. absurd (omega arith)
-  back_le (suc k) =
-      below_suc (λ l h to is. omega (arith, back_suc k, back_le k l h to is)) (λ to is. omega (arith, back_suc k, candidate_hit k to is))
+  pub back_none : (k : ℕ) → back_of link s e k p ≡ None → (l : ℕ) → l < k → (get_or link l no_link).to ≡ p → Arrives l → ⊥
+  unfolding Searched
+  back_none k is = rw is at (searched k)
 
-  back_is : (k : ℕ) → back_of link s e k p < 64 → Awaits k (back_of link s e k p)
-  unfolding back_of
-  back_is zero h = absurd (omega arith)
-  back_is (suc k) h =
-      ⊎_elim
-      (λ (l : candidate k < back_of link s e k p).
-      let new : back_of link s e (suc k) p ≡ candidate k = omega (arith, back_suc k) in
-      rw new (candidate_is k (omega arith)))
-      (λ (l : back_of link s e k p ≤ candidate k).
-      let old : back_of link s e (suc k) p ≡ back_of link s e k p = omega (arith, back_suc k) in
-      let a = back_is k (omega arith) in
-      rw old (record { at = a.at; here = omega arith; from = a.from; to = a.to; is = a.is }))
-      (lt_or_le (candidate k) (back_of link s e k p))
+  pub back_is : (k q : ℕ) → back_of link s e k p ≡ Some q → Awaits k q
+  unfolding Searched
+  back_is k q is = (rw is at (searched k)).0
+
+  pub back_le : (k q : ℕ) → back_of link s e k p ≡ Some q → (l : ℕ) → l < k → (get_or link l no_link).to ≡ p → Arrives l → q ≤ (get_or link l no_link).from
+  unfolding Searched
+  back_le k q is = (rw is at (searched k)).1
 
 module _ (b : Board) (ok : WellFormed b) (s e : List Ticks) (t : Timed (view b) (view b).fastest (ticks_at s) (ticks_at e)) where
-  abbrev back : ℕ → ℕ
+  abbrev back : ℕ → Option ℕ
   back p = back_of b.link s e b.links p
 
   -- a part that no start waits for has none before it: every part takes time
-  pub back_first : (p : ℕ) → p < b.parts → 64 ≤ back p → First (view b) p
+  pub back_first : (p : ℕ) → p < b.parts → back p ≡ None → First (view b) p
   unfolding view delay_of
   back_first p h none = record {
     none = λ l k q.
@@ -168,15 +183,15 @@ module _ (b : Board) (ok : WellFormed b) (s e : List Ticks) (t : Timed (view b) 
         let here = ap (arrive (view b) (ticks_at e)) q in
         let ends = t.ends (link_at b l).from f in
         let a = arrival (view b) (ticks_at e) p (omega (arith, (ok.curves (link_at b l).from f).fastest_from)) in
-        omega (arith, back_le b.link s e p b.links a.link a.here a.to (a.is ∙ sym (t.starts p h)), ok.from_in a.link a.here, ok.parts_to);
+        back_none b.link s e p b.links none a.link a.here a.to (a.is ∙ sym (t.starts p h));
   }
 
-  pub back_step : (p : ℕ) → p < b.parts → back p < 64 → StepBack (view b) (ticks_at e) p (back p)
+  pub back_step : (p q : ℕ) → p < b.parts → back p ≡ Some q → StepBack (view b) (ticks_at e) p q
   unfolding view delay_of
-  back_step p h some =
-      let a = back_is b.link s e p b.links some in
+  back_step p q h some =
+      let a = back_is b.link s e p b.links q some in
       record {
         by = record { link = a.at; here = a.here; from = a.from; to = a.to };
-        greatest = λ l k q. omega (arith, a.is, t.starts p h, arrive_ge (view b) (ticks_at e) l k, ap (arrive (view b) (ticks_at e)) q);
-        lowest = λ l k q same. back_le b.link s e p b.links l k q (same ∙ a.is);
+        greatest = λ l k to. omega (arith, a.is, t.starts p h, arrive_ge (view b) (ticks_at e) l k, ap (arrive (view b) (ticks_at e)) to);
+        lowest = λ l k to same. back_le b.link s e p b.links q some l k to (same ∙ a.is);
       }

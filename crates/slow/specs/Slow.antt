@@ -2,13 +2,14 @@
 -- The idea: a part's end, all at fastest, is what the slowest path to it takes, and a step back goes to the part that its start waits for.
 -- So the greatest end is the ticks of the path walked back from there. The subtle point: ties go to the lowest number, so the path is one.
 -- Assumes nothing.
-use Rattle.std.specs.Prelude.{◌≡◌, true, false, List, [], ◌∷◌, ◌++◌, ℕ, ◌+◌, ◌-◌, ◌≤◌, ◌<◌, length, replicate}
+use Rattle.std.specs.Prelude.{◌≡◌, Option, Some, None, List, [], ◌∷◌, ◌++◌, ℕ, ◌+◌, ◌≤◌, ◌<◌}
 use Rattle.theory.specs.Graph.{Graph}
 use Rattle.theory.specs.Budget.{Timed}
 use Rattle.board.specs.declared.Board.{Board}
 use Rattle.board.specs.Board.{usable, view}
 pub use Rattle.times.specs.Times.{Loopless}
 use Rattle.slow.specs.declared.ShownPath.{ShownPath}
+use Rattle.slow.specs.Walk.{trail_of}
 
 module _ (G : Graph) where
   -- a link leads from part q to part p
@@ -77,15 +78,11 @@ pub record TooSlow (b : Board) : Type 0 where
   pub is : PathTo (view b) part path ticks
   pub over : usable b < ticks
 
--- an answer with that path; places past it hold 0
-unfoldable pub shown : ℕ → List ℕ → ShownPath
-shown ticks path = record { slow = true; ticks = ticks; count = length path; path = path ++ replicate (64 - length path) 0 }
+-- an answer with that path
+unfoldable pub shown : ℕ → List ℕ → Option ShownPath
+shown ticks path = Some (record { ticks = ticks; path = trail_of path })
 
--- "The path is empty except at 10."
-unfoldable pub path_in_time : ShownPath
-path_in_time = record { slow = false; ticks = 0; count = 0; path = replicate 64 0 }
-
--- which of the two it is
-pub data SlowOf (b : Board) (r : ShownPath) : Type 0 where
-  kept : InTime b → r ≡ path_in_time → SlowOf b r
+-- which of the two it is: no path is shown in time
+pub data SlowOf (b : Board) (r : Option ShownPath) : Type 0 where
+  kept : InTime b → r ≡ None → SlowOf b r
   exceeded : {ticks : ℕ} {path : List ℕ} → SlowPath b ticks path → r ≡ shown ticks path → SlowOf b r

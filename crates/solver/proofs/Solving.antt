@@ -1,10 +1,8 @@
 -- The ways of `solve`: a board refused; and loads that conserve with their first times, which are the budget held and its reason.
 -- Assumes nothing.
-use Rattle.std.proofs.Common.{◌≡◌, ℕ, ◌+◌, ◌<◌, ◌≤◌, Bool, true, false, not, List, [], sym, refl, arith, w64, Fits}
+use Rattle.std.proofs.Common.{◌≡◌, ℕ, ◌+◌, ◌<◌, ◌≤◌, Bool, true, false, not, List, [], arith, w64, Fits}
 use borrow.Author.Tests.{not-true, not-false}
-use Rattle.refusal.specs.declared.Why.{Why}
-use Rattle.refusal.specs.declared.Answer.{Answer}
-use Rattle.refusal.specs.declared.Answer.TheVariants.{Done, Refused}
+use Rattle.std.specs.Prelude.{Result, Ok}
 use Rattle.theory.specs.Sum.{cells}
 use Rattle.theory.specs.Graph.{Graph, Times, Flow, Lawful, Slack}
 use Rattle.theory.specs.Budget.{Held}
@@ -14,26 +12,25 @@ use Rattle.board.specs.Board.{WellFormed, view, usable}
 use Rattle.board.specs.Tests.{Decides}
 use Rattle.board.proofs.Lawful.{lawful}
 use Rattle.cone.proofs.Loops.{loop_free_ranked, ranked_loop_free}
-use Rattle.slow.specs.declared.Trail.{Trail}
-use Rattle.slow.specs.Walk.{trail_of}
 use Rattle.budget.specs.declared.Budget.{Budget}
 use Rattle.budget.specs.Budget.{Holds}
 use Rattle.budget.specs.Made.{value_of}
 use Rattle.budget.specs.Reason.{Reason, loads_of}
 use Rattle.budget.proofs.BudgetLaws.{value_alike, value_holds}
-use Rattle.nets.specs.Net.{Net}
+use Rattle.nets.specs.Network.{Network}
 use Rattle.nets.specs.Flow.{Sheet, First}
 use Rattle.nets.specs.Wired.{Wired, times_of}
-use Rattle.nets.specs.Sheet.{net_in, time_in, load_in}
+use Rattle.nets.specs.declared.Net.{Net}
+use Rattle.nets.specs.declared.Work.{Work}
+use Rattle.nets.specs.Sheet.{net_in}
 use Rattle.nets.proofs.Bridge.{balanced_conserves}
 use Rattle.nets.proofs.Nodes.{first_held, first_slack}
 use Rattle.nets.proofs.Steps.{first_agrees, sheet_agrees}
 use Rattle.deciding.specs.Balancing.{SheetIn}
 use Rattle.solver.specs.declared.Solved.{Solved}
-use Rattle.solver.specs.declared.judging.Judged.{Judged}
-use Rattle.solver.specs.Verdict.{Verdict, looped, slow, fine}
-use Rattle.solver.specs.Judging.{JudgedOf}
-use Rattle.solver.specs.Solve.{no_budget, no_loads, refused_of, Solvable, Solves}
+use Rattle.solver.specs.declared.Unsolved.{Unsolved}
+use Rattle.solver.specs.Verdict.{Verdict, fine}
+use Rattle.solver.specs.Solve.{Solvable, Sound, Solves}
 use Rattle.solver.specs.Wiring.{NetworkIn}
 use Rattle.solver.specs.Finding.{Prepared, Found, Answers}
 use Rattle.solver.specs.Reading.{Budgeted, FlowIn}
@@ -51,18 +48,13 @@ alike_slack G o {τ} {τ'} same k = record {
 off_on : {A : Type 0} {t : Bool} → t ≡ false → t ≡ true → A
 off_on off on = absurd (let z : ◌≡◌ {A = ℕ} 0 1 = cc in omega arith)
 
-pub never : {A : Type 0} {why : Why} {place : ℕ} → Refused why place ≡ Done → A
-never e = absurd (let z : ◌≡◌ {A = ℕ} 0 1 = cc in omega arith)
-
-solvable_fine : (b : Board) → Solvable b → Verdict b Done []
+solvable_fine : (b : Board) → Solvable b → Verdict b (Ok tt) []
 solvable_fine b can =
     fine (ranked_loop_free b 65 can.ranked)
     (record { end = can.end; ends = record { start = can.start; timed = can.fastest }; within = can.in_time })
 
-verdict_solvable : (b : Board) → WellFormed b → {a : Answer} {path : List ℕ} → Verdict b a path → a ≡ Done → Solvable b
-verdict_solvable b w (looped x) e = never e
-verdict_solvable b w (slow free x) e = never e
-verdict_solvable b w (fine free k) e = record {
+pub verdict_solvable : (b : Board) → WellFormed b → Verdict b (Ok tt) [] → Solvable b
+verdict_solvable b w (fine free k) = record {
   formed = w;
   ranked = loop_free_ranked b w free;
   start = k.ends.start;
@@ -71,45 +63,23 @@ verdict_solvable b w (fine free k) e = record {
   in_time = k.within;
 }
 
-module _ (b : Board) (j : Judged) (so : JudgedOf b j) where
-  pub judged_solvable : WellFormed b → j.answer ≡ Done → Solvable b
-  judged_solvable w e = verdict_solvable b w so.verdict e
-
-  pub judged_refused : (why : Why) (place : ℕ) (r : Solved) → j.answer ≡ Refused why place → r ≡ refused_of (Refused why place) j.path → Solves b r
-  judged_refused why place r e is =
-      rw is
-      (record {
-        path = so.path;
-        verdict = rw e at so.verdict;
-        listed = so.listed;
-        holds = λ d. never d;
-        reason = λ d. never d;
-        blank = λ _ _ _. refl;
-        idle = λ _ _ _. refl;
-      })
-
-pub refused_is :
-    (a : Answer) (p : Trail) (u : Budget) (x : List ℕ) → u ≡ no_budget → x ≡ no_loads →
-    record { answer = a; path = p; budget = u; flow = x } ≡ refused_of a p
-refused_is a p u x e f = rw (e, f)
-
 -- ---- `solve`
 module _ (b : Board) (q : Bool) (d : Decides q (WellFormed b)) where
-  pub not_formed : (r : Solved) → not q ≡ true → WellFormed b → Solves b r
+  pub not_formed : (r : Result Solved Unsolved) → not q ≡ true → WellFormed b → Solves b r
   not_formed r off w = off_on (not-true q off) (d.no w)
 
   pub is_formed : not q ≡ false → WellFormed b
   is_formed on = d.yes (not-false q on)
 
 -- ---- a board that can be solved
-pub so_prepared : (b : Board) → Solvable b → (due : ℕ) → due ≡ usable b → (net : List ℕ) → NetworkIn b net → Prepared b net due
+pub so_prepared : (b : Board) → Solvable b → (due : ℕ) → due ≡ usable b → (net : Net) → NetworkIn b net → Prepared b net due
 so_prepared b can due e net n = record { can = can; network = n; due_is = e }
 
-pub so_answers : (b : Board) (due : ℕ) → due ≡ usable b → (net w : List ℕ) → Found b due net w → Answers b w
+pub so_answers : (b : Board) (due : ℕ) → due ≡ usable b → (net : Net) (w : Work) → Found b due net w → Answers b w
 so_answers b due e net w f = record { net = net; found = rw e at f }
 
 -- loads and their first times
-module _ (b : Board) (can : Solvable b) (N : Net) (w : Wired (view b) N) (t x : List ℕ) (f : First N (usable b) (cells x) (cells t))
+module _ (b : Board) (can : Solvable b) (N : Network) (w : Wired (view b) N) (t x : List ℕ) (f : First N (usable b) (cells x) (cells t))
     (s : Sheet N.arcs N.tail N.head (cells x)) where
   abbrev τ : Times
   τ = times_of (view b) (cells t)
@@ -137,22 +107,22 @@ module _ (b : Board) (can : Solvable b) (N : Net) (w : Wired (view b) N) (t x : 
       })
 
 -- ---- `answer_of`
-module _ (b : Board) (w : List ℕ) (ans : Answers b w) where
+module _ (b : Board) (w : Work) (ans : Answers b w) where
   abbrev can : Solvable b
   can = ans.found.prepared.can
 
-  abbrev M : Net
+  abbrev M : Network
   M = net_in ans.net
 
   wired : Wired (view b) M
   wired = ans.found.prepared.network.wired
 
-  sheet : Sheet M.arcs M.tail M.head (cells (load_in w))
+  sheet : Sheet M.arcs M.tail M.head (cells w.load)
   unfolding SheetIn
   sheet = ans.found.proves.sheet
 
-  pub answers_settled : Budgeted b (time_in w)
-  answers_settled = first_settled b can M wired (time_in w) (load_in w) ans.found.proves.first sheet
+  pub answers_settled : Budgeted b w.time
+  answers_settled = first_settled b can M wired w.time w.load ans.found.proves.first sheet
 
   pub loads_fit_2 : Fits w64 (b.parts + b.links)
   loads_fit_2 = omega (arith, can.formed.parts_to, can.formed.links_to)
@@ -166,25 +136,21 @@ module _ (b : Board) (w : List ℕ) (ans : Answers b w) where
   pub loads_few : b.parts + b.links + b.parts + b.parts ≤ 448
   loads_few = omega (arith, can.formed.parts_to, can.formed.links_to)
 
-  module _ (r : Budget) (p : Trail) (flow : List ℕ) (e : r ≡ value_of b (times_of (view b) (cells (time_in w)))) (listed : p ≡ trail_of [])
-      (read : FlowIn w (b.parts + b.links + b.parts + b.parts) flow) where
-    same_load : (a : ℕ) → a < M.arcs → cells flow a ≡ cells (load_in w) a
+  module _ (r : Budget) (flow : List ℕ) (e : r ≡ value_of b (times_of (view b) (cells w.time)))
+      (read : FlowIn w.load (b.parts + b.links + b.parts + b.parts) flow) where
+    same_load : (a : ℕ) → a < M.arcs → cells flow a ≡ cells w.load a
     unfolding view
     same_load a h = read.loads a (omega (arith, wired.arcs))
 
-    flow_first : First M (usable b) (cells flow) (cells (time_in w))
-    flow_first = first_agrees M (usable b) (cells (load_in w)) (cells flow) same_load (cells (time_in w)) ans.found.proves.first
+    flow_first : First M (usable b) (cells flow) (cells w.time)
+    flow_first = first_agrees M (usable b) (cells w.load) (cells flow) same_load (cells w.time) ans.found.proves.first
 
     flow_sheet : Sheet M.arcs M.tail M.head (cells flow)
-    flow_sheet = sheet_agrees M (cells (load_in w)) (cells flow) same_load sheet
+    flow_sheet = sheet_agrees M (cells w.load) (cells flow) same_load sheet
 
-    pub answers_solves : Solves b (record { answer = Done; path = p; budget = r; flow = flow })
+    pub answers_solves : Sound b (record { budget = r; flow = flow })
     answers_solves = record {
-      path = [];
       verdict = solvable_fine b can;
-      listed = listed;
-      holds = λ _. first_holds b can M wired (time_in w) flow flow_first flow_sheet r e;
-      reason = λ _. first_reason b can M wired (time_in w) flow flow_first flow_sheet r e (λ a h. read.past a (omega arith));
-      blank = λ why place q. never (sym q);
-      idle = λ why place q. never (sym q);
+      holds = first_holds b can M wired w.time flow flow_first flow_sheet r e;
+      reason = first_reason b can M wired w.time flow flow_first flow_sheet r e (λ a h. read.past a (omega arith));
     }

@@ -1,7 +1,7 @@
 -- The work sheet read back: times of nodes are the starts and ends of a budget, and loads of arcs are a flow.
 -- The subtle point: the sheet has room for 448 arcs, and what stands past the last one is anybody's; the flow is 0 there.
 -- Assumes nothing.
-use Rattle.std.specs.Prelude.{◌≡◌, ℕ, ◌+◌, ◌<◌, ◌≤◌, List, length}
+use Rattle.std.specs.Prelude.{◌≡◌, ℕ, ◌+◌, ◌<◌, ◌≤◌, List}
 use Rattle.theory.specs.Sum.{cells}
 use Rattle.theory.specs.Budget.{Budget}
 use Rattle.curve.specs.declared.Ticks.{Ticks}
@@ -9,7 +9,6 @@ use Rattle.curve.specs.Rows.{ticks_row}
 use Rattle.board.specs.declared.Board.{Board}
 use Rattle.board.specs.Board.{WellFormed, view, usable}
 use Rattle.nets.specs.Wired.{times_of}
-use Rattle.nets.specs.Sheet.{load_in}
 
 -- the times of the first n nodes from node `first` on
 unfoldable pub nodes_from : List ℕ → ℕ → ℕ → List Ticks
@@ -21,7 +20,6 @@ pub record Budgeted (b : Board) (t : List ℕ) : Type 0 where
   pub budget : Budget (view b) (usable b) (times_of (view b) (cells t))
 
 -- the loads of the first arcs, and none past them
-pub record FlowIn (w : List ℕ) (arcs : ℕ) (flow : List ℕ) : Type 0 where
-  pub loads : (a : ℕ) → a < arcs → cells flow a ≡ cells (load_in w) a
+pub record FlowIn (x : List ℕ) (arcs : ℕ) (flow : List ℕ) : Type 0 where
+  pub loads : (a : ℕ) → a < arcs → cells flow a ≡ cells x a
   pub past : (a : ℕ) → arcs ≤ a → cells flow a ≡ 0
-  pub room : length flow ≡ 448

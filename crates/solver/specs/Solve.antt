@@ -2,42 +2,32 @@
 -- The idea (documents 000 and 003): loads that conserve, and times that are slack with them, prove the times cheapest; the first times that are slack
 -- with them are the budget held. The subtle point: there may be many such flows, and no statement says which one is given.
 -- Assumes nothing.
-use Rattle.std.specs.Prelude.{◌≡◌, ℕ, ◌<◌, ◌≤◌, List, replicate}
-use Rattle.refusal.specs.declared.Why.{Why}
-use Rattle.refusal.specs.declared.Answer.{Answer}
-use Rattle.refusal.specs.declared.Answer.TheVariants.{Done, Refused}
+use Rattle.std.specs.Prelude.{ℕ, ◌<◌, ◌≤◌, [], Result, Ok, Err}
 use Rattle.theory.specs.Graph.{Ranked}
 use Rattle.theory.specs.Budget.{Timed}
 use Rattle.board.specs.declared.Board.{Board}
 use Rattle.board.specs.Board.{WellFormed, view, usable}
-use Rattle.slow.specs.declared.Trail.{Trail}
-use Rattle.slow.specs.Walk.{trail_of}
 use Rattle.budget.specs.Budget.{Holds}
 pub use Rattle.budget.specs.Made.{no_budget}
 use Rattle.budget.specs.Reason.{Reason}
 use Rattle.solver.specs.declared.Solved.{Solved}
+use Rattle.solver.specs.declared.Unsolved.{Unsolved}
 use Rattle.solver.specs.Verdict.{Verdict}
+use Rattle.solver.specs.Judging.{Turned}
 
 -- ---- what is promised
--- no load on any part, link, entry or exit
-unfoldable pub no_loads : List ℕ
-no_loads = replicate 448 0
+-- a board that is refused for nothing: the budget that is held, and its reason
+pub record Sound (b : Board) (s : Solved) : Type 0 where
+  pub verdict : Verdict b (Ok tt) []
+  pub holds : Holds b s.budget
+  pub reason : Reason b s.budget s.flow
 
--- what a well-formed board comes to: the verdict on it; the budget that is held and its reason where it is refused for nothing, and else neither
-pub record Solves (b : Board) (r : Solved) : Type 0 where
-  pub path : List ℕ
-  pub verdict : Verdict b r.answer path
-  pub listed : r.path ≡ trail_of path
-  pub holds : r.answer ≡ Done → Holds b r.budget
-  pub reason : r.answer ≡ Done → Reason b r.budget r.flow
-  pub blank : (why : Why) (place : ℕ) → r.answer ≡ Refused why place → r.budget ≡ no_budget
-  pub idle : (why : Why) (place : ℕ) → r.answer ≡ Refused why place → r.flow ≡ no_loads
+-- what a well-formed board comes to: the verdict on it, with the budget where it is refused for nothing and else the path that is shown
+abbrev pub Solves : Board → Result Solved Unsolved → Type 0
+Solves b (Ok s) = Sound b s
+Solves b (Err u) = Turned b u
 
 -- ---- its steps
--- a board that is refused
-abbrev pub refused_of : Answer → Trail → Solved
-refused_of answer path = record { answer = answer; path = path; budget = no_budget; flow = no_loads }
-
 -- a board without a loop whose fastest delays do not exceed the deadline
 pub record Solvable (b : Board) : Type 0 where
   pub formed : WellFormed b

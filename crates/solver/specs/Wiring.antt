@@ -1,13 +1,11 @@
 -- A board laid on the net sheet as a network: part p is arc p, then come the links, an entry of each part and an exit of each (`Wired` of the crate `nets`).
--- The idea: four blocks of arcs are laid one after another, each leaving those before it as they are; then the runs, then the counts.
+-- The idea: four blocks of arcs are laid one after another, each leaving those before it as they are; then the runs.
 -- Assumes nothing.
 use Rattle.std.specs.Prelude.{◌≡◌, ℕ, ◌+◌, ◌/◌, ◌%◌, ◌<◌, ◌≢◌, List, length}
 use Rattle.theory.specs.Sum.{cells}
-use Rattle.nets.specs.Layout.{ARCS, BASE, HEAD, LENGTH, SAVING, TAIL}
-use Rattle.nets.specs.Region.{Only}
-use Rattle.nets.specs.Net.{Curved}
+use Rattle.nets.specs.declared.Net.{Net}
 use Rattle.nets.specs.Wired.{Wired}
-use Rattle.nets.specs.Sheet.{net_in, SoundIn, arcs_in, base_in, lengths_in, savings_in}
+use Rattle.nets.specs.Sheet.{net_in, SoundIn, CurvedIn}
 use Rattle.curve.specs.Curve.{length_at, saving_at}
 use Rattle.board.specs.declared.Board.{Board}
 use Rattle.board.specs.Board.{view, curve_at}
@@ -23,8 +21,8 @@ abbrev pub span : ℕ → ℕ → ℕ → Span
 span from to ticks = record { from = from; to = to; ticks = ticks }
 
 -- arc a of the sheet
-abbrev pub span_in : List ℕ → ℕ → Span
-span_in net a = span (cells net (TAIL + a)) (cells net (HEAD + a)) (cells net (BASE + a))
+abbrev pub span_in : Net → ℕ → Span
+span_in net a = span (cells net.tail a) (cells net.head a) (cells net.base a)
 
 -- the arcs of a board's part, link, entry and exit
 abbrev pub part_span : Board → ℕ → Span
@@ -41,28 +39,24 @@ exit_span p = span (64 + p) 129 0
 
 -- ---- what the steps leave
 -- arc a is s, and the other arcs are as they were
-pub record PutIn (a : ℕ) (s : Span) (net net' : List ℕ) : Type 0 where
+pub record PutIn (a : ℕ) (s : Span) (net net' : Net) : Type 0 where
   pub here : span_in net' a ≡ s
-  pub there : (i : ℕ) → i < 448 → i ≢ a → span_in net' i ≡ span_in net i
+  pub there : (i : ℕ) → i ≢ a → span_in net' i ≡ span_in net i
 
 -- `count` arcs from arc `first` on are s; those before them are as they were
-pub record LaidIn (first count : ℕ) (s : ℕ → Span) (net net' : List ℕ) : Type 0 where
+pub record LaidIn (first count : ℕ) (s : ℕ → Span) (net net' : Net) : Type 0 where
   pub laid : (i : ℕ) → i < count → span_in net' (first + i) ≡ s i
-  pub kept : (a : ℕ) → a < first → a < 448 → span_in net' a ≡ span_in net a
+  pub kept : (a : ℕ) → a < first → span_in net' a ≡ span_in net a
 
 -- the first k places of the runs, four to a part; a place without a run holds 0
-pub record RunsIn (b : Board) (k : ℕ) (net net' : List ℕ) : Type 0 where
-  pub run_length : (i : ℕ) → i < k → cells net' (LENGTH + i) ≡ length_at (curve_at b (i / 4)) (i % 4)
-  pub run_saving : (i : ℕ) → i < k → cells net' (SAVING + i) ≡ saving_at (curve_at b (i / 4)) (i % 4)
-  pub only : Only LENGTH 512 net net'
-  pub long : length net' ≡ 2048
-
-pub record CountedIn (arcs : ℕ) (net net' : List ℕ) : Type 0 where
-  pub arcs_is : cells net' ARCS ≡ arcs
-  pub only : Only ARCS 3 net net'
+pub record Runs (b : Board) (k : ℕ) (lengths savings : List ℕ) : Type 0 where
+  pub run_length : (i : ℕ) → i < k → cells lengths i ≡ length_at (curve_at b (i / 4)) (i % 4)
+  pub run_saving : (i : ℕ) → i < k → cells savings i ≡ saving_at (curve_at b (i / 4)) (i % 4)
+  pub length_room : length lengths ≡ 256
+  pub saving_room : length savings ≡ 256
 
 -- the sheet holds the board's network, and it is one that the main loop and the verdict can work on
-pub record NetworkIn (b : Board) (net : List ℕ) : Type 0 where
+pub record NetworkIn (b : Board) (net : Net) : Type 0 where
   pub wired : Wired (view b) (net_in net)
   pub sound : SoundIn net
-  pub curved : Curved (arcs_in net) (base_in net) (lengths_in net) (savings_in net)
+  pub curved : CurvedIn net

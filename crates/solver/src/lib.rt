@@ -12,44 +12,63 @@ mod judging;
 mod reading;
 mod wiring;
 
-ghost use Rattle.std.specs.Prelude.{◌≡◌};
-ghost use Rattle.refusal.specs.declared.Answer.TheVariants.{Refused};
 ghost use Rattle.board.specs.Board.{WellFormed};
-ghost use Rattle.solver.specs.Solve.{refused_of, Solvable, Solves};
+ghost use Rattle.std.specs.Prelude.{◌≡◌};
+ghost use Rattle.solver.specs.Judging.{unshown};
+ghost use Rattle.solver.specs.Solve.{Solvable, Sound, Solves};
 ghost use Rattle.solver.specs.Finding.{Answers};
 
 use board::Board;
 use budget::Budget;
-use refusal::{Answer, Why};
+use nets::Work;
+use refusal::{Refusal, Why};
 use slow::Trail;
 
-// What a board comes to. The path is empty except at refusal 10. The flow, the loads of parts, links, entries and exits, shows why no budget is
-// cheaper. Where the board is refused, budget and flow are zeros.
+// What a board that is refused for nothing comes to: its budget, and the loads of parts, links, entries and exits that show why no budget is cheaper.
 #[derive(Clone, Copy)]
 pub struct Solved {
-    pub answer: Answer,
-    pub path: Trail,
     pub budget: Budget,
     pub flow: [u32; 448],
 }
 
-// What may be known of a board before it is solved, any numbers at all: loads of its arcs, and times of the nodes, of parts' starts and ends, source
-// and sink. Where the sink has none, all parts at their slowest are begun from. Loads that are ready are judged as they are, with no advice sought: so
+// A board that is refused. The path is empty except at refusal 10.
+#[derive(Clone, Copy)]
+pub struct Unsolved {
+    pub refusal: Refusal,
+    pub path: Trail,
+}
+
+// A board that is refused before any path is looked at.
+impl From<Refusal> for Unsolved {
+    ghost from_gives = { λ refusal u. u ≡ unshown refusal };
+
+    fn from(refusal: Refusal) -> Unsolved {
+        Unsolved {
+            refusal,
+            path: Trail::empty(),
+        }
+    }
+}
+
+// What may be known of a board before it is solved, any numbers at all. Known: loads of its arcs to begin at, and times of the nodes, of parts' starts and
+// ends, source and sink; without times all parts at their slowest are begun from. Ready: loads that are judged as they are, with no advice sought: so
 // trials reach the verdict and the main loop.
 #[derive(Clone, Copy)]
-pub struct Advice {
-    pub loads: [u32; 448],
-    pub times: [u32; 130],
-    pub ready: bool,
+pub enum Advice {
+    Known {
+        loads: [u32; 448],
+        times: Option<[u32; 130]>,
+    },
+    Ready {
+        loads: [u32; 448],
+    },
 }
 
 // Nothing known.
 pub fn no_advice() -> Advice {
-    let times = [0u32; 130];
-    Advice {
-        loads: reading::no_loads(),
-        times,
-        ready: false,
+    Advice::Known {
+        loads: [0; 448],
+        times: None,
     }
 }
 
@@ -59,69 +78,45 @@ pub fn advice_from(from: Board, held: Budget, flow: [u32; 448], to: Board) -> Ad
 }
 
 // ---- a board that can be solved
-// The answer that stands on the work sheet.
-fn answer_of(b: Board, work: &[u32; 968]) -> Solved
+// The budget and the flow that stand on the work sheet.
+fn answer_of(b: Board, work: &Work) -> Solved
     requires { Answers b work.now }
-    ensures { Solves b result }
+    ensures { Sound b result }
 {
-    let budget = reading::budget_at(b, work);
-    let flow = reading::flow_of(work, b.parts + b.links + b.parts + b.parts);
     Solved {
-        answer: Answer::Done,
-        path: judging::no_path(),
-        budget,
-        flow,
+        budget: reading::budget_at(b, &work.time),
+        flow: reading::flow_of(&work.load, b.parts + b.links + b.parts + b.parts),
     }
 }
 
 // The budget that is held, with its reason, on a board that is refused for nothing.
 fn solve_possible(b: Board, advice: Advice) -> Solved
     requires { Solvable b }
-    ensures { Solves b result }
+    ensures { Sound b result }
 {
     let due = board::usable_deadline(b);
-    let mut net = [0u32; 2048];
-    let mut work = [0u32; 968];
-    wiring::wire(b, due.0, &mut net);
+    let mut net = wiring::wire(b, due.0);
+    let mut work = Work::empty();
     finding::find(b, due.0, advice, &mut net, &mut work);
     answer_of(b, &work)
 }
 
 // ---- any board
-// A board that is refused: zeros.
-fn refused(why: Why, place: usize, path: Trail) -> Solved
-    ensures { result ≡ refused_of (Refused why place) path }
-{
-    let budget = budget::no_budget();
-    let flow = reading::no_loads();
-    Solved {
-        answer: Answer::Refused { why, place },
-        path,
-        budget,
-        flow,
-    }
-}
-
 // Refusal 9 or 10 of a well-formed board, or the budget that is held. The advice may be anything: good advice makes for quick work.
-pub fn solve_formed(b: Board, advice: Advice) -> Solved
+pub fn solve_formed(b: Board, advice: Advice) -> Result<Solved, Unsolved>
     requires { WellFormed b }
     ensures { Solves b result }
 {
-    let j = judging::judge(b);
-    let answer = j.answer;
-    let path = j.path;
-    match answer {
-        Answer::Refused { why, place } => refused(why, place, path),
-        Answer::Done => solve_possible(b, advice),
-    }
+    judging::judge(b)?;
+    Ok(solve_possible(b, advice))
 }
 
 // The same for any board. Of a value that is not well formed only the end of the call is promised.
-pub fn solve(b: Board, advice: Advice) -> Solved
+pub fn solve(b: Board, advice: Advice) -> Result<Solved, Unsolved>
     ensures { WellFormed b → Solves b result }
 {
     if !board::well_formed(b) {
-        return refused(Why::NoBoard, 0, judging::no_path());
+        return Err(Why::NoBoard.at(0).into());
     }
     solve_formed(b, advice)
 }

@@ -4,55 +4,41 @@ ghost use Rattle.theory.specs.Sum.{cells};
 ghost use Rattle.board.specs.Board.{view};
 ghost use Rattle.budget.specs.Made.{value_of};
 ghost use Rattle.nets.specs.Wired.{times_of};
-ghost use Rattle.nets.specs.Sheet.{time_in};
-ghost use Rattle.solver.specs.Solve.{no_loads};
 ghost use Rattle.solver.specs.Reading.{nodes_from, Budgeted, FlowIn};
 
 use board::Board;
 use budget::Budget;
-use curve::{Ticks, no_ticks};
+use curve::Ticks;
 
 // The times of `n` nodes from node `first` on.
-fn nodes_from(work: &[u32; 968], first: usize, n: usize) -> [Ticks; 64]
+fn nodes_from(time: &[u32; 130], first: usize, n: usize) -> [Ticks; 64]
     requires first_bound { first ≤ 64 }
     requires n_bound { n ≤ 64 }
-    ensures { result ≡ nodes_from (time_in work.now) first n }
+    ensures { result ≡ nodes_from time.now first n }
 {
-    let mut times = no_ticks();
-    let mut k: usize = 0;
-    while k < n {
-        times[k] = Ticks(work[nets::TIME + (first + k)]);
-        k = k + 1;
+    let mut times = [Ticks(0); 64];
+    for k in 0..n {
+        times[k] = Ticks(time[first + k]);
     }
     times
 }
 
 // The budget that the times of nodes are.
-pub(crate) fn budget_at(b: Board, work: &[u32; 968]) -> Budget
-    requires { Budgeted b (time_in work.now) }
-    ensures { result ≡ value_of b (times_of (view b) (cells (time_in work.now))) }
+pub(crate) fn budget_at(b: Board, time: &[u32; 130]) -> Budget
+    requires { Budgeted b time.now }
+    ensures { result ≡ value_of b (times_of (view b) (cells time.now)) }
 {
-    let start = nodes_from(work, 0, b.parts);
-    let end = nodes_from(work, 64, b.parts);
+    let start = nodes_from(time, 0, b.parts);
+    let end = nodes_from(time, 64, b.parts);
     budget::budget_of(b, start, end)
 }
 
-pub(crate) fn no_loads() -> [u32; 448]
-    ensures { result ≡ no_loads }
-{
-    [0u32; 448]
-}
-
 // The loads of the first `arcs` arcs, and no load past them.
-pub(crate) fn flow_of(work: &[u32; 968], arcs: usize) -> [u32; 448]
+pub(crate) fn flow_of(load: &[u32; 448], arcs: usize) -> [u32; 448]
     requires { arcs ≤ 448 }
-    ensures { FlowIn work.now arcs result }
+    ensures { FlowIn load.now arcs result }
 {
-    let mut flow = no_loads();
-    let mut a: usize = 0;
-    while a < arcs {
-        flow[a] = work[nets::LOAD + a];
-        a = a + 1;
-    }
+    let mut flow = [0u32; 448];
+    flow[..arcs].copy_from_slice(&load[..arcs]);
     flow
 }

@@ -3,8 +3,8 @@
 use mathlib.Core.Path.{◌≡◌, sym, ◌∙◌}
 use mathlib.Core.List.{List}
 use Prim.Native.Nat.{ℕ}
-use Rattle.refusal.specs.declared.Why.{Why}
-use Rattle.refusal.specs.declared.Answer.TheVariants.{Done, Refused}
+use Rattle.std.specs.Prelude.{Ok, Err}
+use Rattle.refusal.specs.declared.Refusal.{Refusal}
 use Rattle.desk.specs.declared.Tally.{Tally}
 use Rattle.desk.specs.declared.Desk.{Desk}
 use Rattle.desk.specs.declared.Loaded.{Loaded}
@@ -24,12 +24,12 @@ module _ (d : Desk) (rule : ℕ) (s : List ℕ) (t : Tally) where
       (same, one.left ∙ same.tally ∙ sym two.left)
 
   -- "when accepted, sets both counts to zero"
-  pub lent_load_clears : (r : Loaded) (t' : Tally) → LentLoad d rule s t r t' → r.answer ≡ Done → t' ≡ no_tally
+  pub lent_load_clears : (r : Loaded) (t' : Tally) → LentLoad d rule s t r t' → r.answer ≡ Ok tt → t' ≡ no_tally
   lent_load_clears r t' lent done = lent.left ∙ (load_accepted d t r rule s lent.said done).so.tally
 
   -- a refused load leaves the tally, as all else
-  pub lent_load_stays : (r : Loaded) (t' : Tally) (why : Why) (place : ℕ) → LentLoad d rule s t r t' → r.answer ≡ Refused why place → t' ≡ t
-  lent_load_stays r t' why place lent refused = lent.left ∙ (load_refused_stays d t rule s r lent.said refused).1
+  pub lent_load_stays : (r : Loaded) (t' : Tally) (e : Refusal) → LentLoad d rule s t r t' → r.answer ≡ Err e → t' ≡ t
+  lent_load_stays r t' e lent refused = lent.left ∙ (load_refused_stays d t rule s r lent.said refused).1
 
 module _ (d : Desk) (s : List ℕ) (t : Tally) where
   -- on a desk that stands, as every desk does that loads and orders gave
@@ -40,5 +40,5 @@ module _ (d : Desk) (s : List ℕ) (t : Tally) where
       (same, one.counted ∙ same.tally ∙ sym two.counted)
 
   -- a refused order counts itself at most
-  pub lent_order_stays : (r : Ordered) (t' : Tally) (why : Why) (place : ℕ) → LentOrder d s t r t' → r.answer ≡ Refused why place → t' ≡ refused_tally why t
-  lent_order_stays r t' why place lent refused = lent.counted ∙ (lent.given.stays why place refused).1
+  pub lent_order_stays : (r : Ordered) (t' : Tally) (e : Refusal) → LentOrder d s t r t' → r.answer ≡ Err e → t' ≡ refused_tally e.why t
+  lent_order_stays r t' e lent refused = lent.counted ∙ (lent.given.stays e refused).1

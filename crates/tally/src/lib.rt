@@ -6,6 +6,7 @@ ghost use Rattle.tally.specs.Lent.{LentLoad, LentOrder, SessionSaid};
 use desk::{Desk, Loaded, Ordered, Tally};
 
 // Loads a board under the rule that is named, with the tally lent: an accepted load sets it to zero where it stands, a refused one leaves it.
+// Kept: (a) 01 names this form, one thin function over a by-value step.
 pub fn load(d: Desk, rule: u32, file: &[u8], t: &mut Tally) -> Loaded
     ensures { LentLoad d rule file.now t.old result t.new }
 {
@@ -37,10 +38,7 @@ pub struct SessionEnd {
 pub fn session(file: &[u8], first: &[u8], second: &[u8]) -> SessionEnd
     ensures { SessionSaid file.now first.now second.now result }
 {
-    let mut t = Tally {
-        taken: 0,
-        refused: 0,
-    };
+    let mut t = Tally::NONE;
     let l = load(desk::empty(), RULE_A, file, &mut t);
     let a = order(l.desk, first, &mut t);
     let b = order(a.desk, second, &mut t);

@@ -2,7 +2,7 @@
 -- (`still_times`); that rounds from nothing come there goes by ranks.
 -- The subtle point: a sum past its type stays at the greatest, so a round is defined for any ends.
 -- Assumes nothing.
-use Rattle.std.specs.Prelude.{◌≡◌, Bool, true, false, List, ℕ, ◌+◌, ◌<◌, get_or}
+use Rattle.std.specs.Prelude.{◌≡◌, List, ℕ, ◌+◌, ◌<◌, get_or}
 use Rattle.base.specs.Table.{table}
 use Rattle.theory.specs.Sum.{share}
 use Rattle.theory.specs.Budget.{greatest}
@@ -34,8 +34,3 @@ pub record Still (link : List Link) (links parts : ℕ) (delay : List Ticks) (r 
 pub record InPlaces (link : List Link) (n : ℕ) : Type 0 where
   pub from_in : (l : ℕ) → l < n → (get_or link l no_link).from < 64
   pub to_in : (l : ℕ) → l < n → (get_or link l no_link).to < 64
-
--- whether two rows are the same
-pub record Same (a b : List Ticks) (r : Bool) : Type 0 where
-  pub alike : r ≡ true → a ≡ b
-  pub unlike : r ≡ false → a ≡ b → ⊥

@@ -1,12 +1,9 @@
--- What the loop keeps, and its measure.
+-- What the loop keeps.
 use mathlib.Core.Path.{◌≡◌}
-use Prim.Native.Nat.{◌≤◌, ◌-◌}
+use mathlib.Core.Bool.{true}
 use Rattle.curve.specs.Tests.{every}
 use Rattle.board.specs.Tests.{curve_test}
 use Rattle.board.proofs.curves_good.Given as goal
 
 abbrev pub invariant-loop-p : goal.invariant-loop-p
-invariant-loop-p l = (l.p ≤ 64) × (l.good ≡ every l.p (curve_test l.b))
-
-abbrev pub decreases-loop-p : goal.decreases-loop-p
-decreases-loop-p l = 64 - l.p
+invariant-loop-p l = every l.p (curve_test l.b) ≡ true

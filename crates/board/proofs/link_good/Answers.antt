@@ -1,12 +1,10 @@
-use Rattle.board.specs.Tests.{link_good}
-use Rattle.base.specs.Pick.{pick}
-use Rattle.base.proofs.Tests.{tests}
+-- `board::link_good` meets its contract.
+-- Assumes nothing.
+use Rattle.board.proofs.TestLaws.{link_held_is, link_blank_is}
 use Rattle.board.proofs.link_good.Goals as goal
 
 pub returns-then-l-links : goal.returns-then-l-links
-unfolding link_good pick
-returns-then-l-links c = search tests
+returns-then-l-links c = search (link_held_is)
 
 pub returns : goal.returns
-unfolding link_good pick
-returns c = search tests
+returns c = search (link_blank_is)

@@ -1,11 +1,7 @@
--- What the loop keeps, and its measure.
-use Prim.Native.Nat.{◌-◌, ◌≤◌}
+-- What the loop keeps.
 use mathlib.Core.Path.{◌≡◌}
 use Rattle.budget.specs.Made.{delays_of}
 use Rattle.budget.proofs.delays.Given as goal
 
 abbrev pub invariant-loop-k : goal.invariant-loop-k
-invariant-loop-k l = (l.k ≤ l.n) × (l.d ≡ delays_of l.k l.start l.end)
-
-abbrev pub decreases-loop-k : goal.decreases-loop-k
-decreases-loop-k l = l.n - l.k
+invariant-loop-k l = l.d ≡ delays_of l.k l.start l.end

@@ -1,10 +1,6 @@
--- What the loop keeps, and its measure.
-use Prim.Native.Nat.{◌-◌, ◌≤◌}
+-- What the loop keeps.
 use Rattle.budget.proofs.Making.{Drawn}
 use Rattle.budget.proofs.powers.Given as goal
 
 abbrev pub invariant-loop-k : goal.invariant-loop-k
-invariant-loop-k l = (l.k ≤ l.n) × Drawn l.b l.delay l.w l.k
-
-abbrev pub decreases-loop-k : goal.decreases-loop-k
-decreases-loop-k l = l.n - l.k
+invariant-loop-k l = Drawn l.b l.delay l.w l.k

@@ -1,10 +1,7 @@
--- What the loop keeps, and its measure.
-use Rattle.std.proofs.Common.{◌≡◌, ◌-◌, ◌≤◌}
+-- What the loop keeps.
+use Rattle.std.proofs.Common.{◌≡◌}
 use Rattle.cone.specs.Sweeps.{sweep_up_to}
 use Rattle.cone.proofs.reached.Given as goal
 
 abbrev pub invariant-loop-k : goal.invariant-loop-k
-invariant-loop-k l = (l.k ≤ 64) × (l.s ≡ sweep_up_to l.rows l.from l.k)
-
-abbrev pub decreases-loop-k : goal.decreases-loop-k
-decreases-loop-k l = 64 - l.k
+invariant-loop-k l = l.s ≡ sweep_up_to l.rows l.from l._k

@@ -1,10 +1,6 @@
--- What the loop keeps, and its measure.
-use Rattle.std.proofs.Common.{◌-◌, ◌≤◌}
+-- What the loop keeps.
 use Rattle.cone.specs.Ranks.{Rising}
 use Rattle.cone.proofs.rises.Given as goal
 
-abbrev pub invariant-loop-k : goal.invariant-loop-k
-invariant-loop-k l = (l.k ≤ l.n) × Rising l.link l.rank l.k
-
-abbrev pub decreases-loop-k : goal.decreases-loop-k
-decreases-loop-k l = l.n - l.k
+abbrev pub invariant-loop-l : goal.invariant-loop-l
+invariant-loop-l l = Rising l.link l.rank l.l-index

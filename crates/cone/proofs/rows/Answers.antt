@@ -1,12 +1,14 @@
-use Rattle.std.proofs.Common.{rules}
-use Rattle.cone.proofs.Ways.{rows_none, rows_more, rows_done}
+-- `cone::rows` meets its contract. The loop: the rows of the links gone by.
+-- Assumes nothing.
+use Rattle.cone.proofs.Ways.{rows_more, rows_done}
+use Rattle.marks.proofs.Rows.{marks_none}
 use Rattle.cone.proofs.rows.Goals as goal
 
-pub loop-k-init : goal.loop-k-init
-loop-k-init c = (search rules, search (rows_none))
+pub loop-l-init : goal.loop-l-init
+loop-l-init c = marks_none _ _ _
 
-pub loop-k-preserved : goal.loop-k-preserved
-loop-k-preserved c = (search rules, search (rows_more))
+pub loop-l-preserved : goal.loop-l-preserved
+loop-l-preserved c = search (rows_more)
 
 pub returns : goal.returns
 returns c = search (rows_done)

@@ -1,10 +1,7 @@
--- What the loop keeps, and its measure.
-use Rattle.std.proofs.Common.{◌≡◌, ◌-◌, ◌≤◌}
-use Rattle.cone.specs.Sweeps.{rows_up_to}
+-- What the loop keeps.
+use Rattle.std.proofs.Common.{◌≡◌}
+use Rattle.cone.proofs.Ways.{rows_to}
 use Rattle.cone.proofs.rows.Given as goal
 
-abbrev pub invariant-loop-k : goal.invariant-loop-k
-invariant-loop-k l = (l.k ≤ l.n) × (l.rows ≡ rows_up_to l.b l.back l.k)
-
-abbrev pub decreases-loop-k : goal.decreases-loop-k
-decreases-loop-k l = l.n - l.k
+abbrev pub invariant-loop-l : goal.invariant-loop-l
+invariant-loop-l l = l.rows ≡ rows_to l.link l.l-index

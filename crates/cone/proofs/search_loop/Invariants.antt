@@ -1,11 +1,8 @@
--- What the loop keeps, and its measure.
-use Rattle.std.proofs.Common.{◌≡◌, ◌-◌, ◌≤◌}
-use Rattle.cone.specs.declared.Loop.TheVariants.{Free}
+-- What the loop keeps.
+use Rattle.std.proofs.Common.{◌≡◌}
+use Rattle.std.specs.Prelude.{None}
 use Rattle.cone.specs.Sweeps.{loop_up_to}
 use Rattle.cone.proofs.search_loop.Given as goal
 
 abbrev pub invariant-loop-p : goal.invariant-loop-p
-invariant-loop-p l = (l.p ≤ l.n) × (loop_up_to l.rows l.p ≡ Free)
-
-abbrev pub decreases-loop-p : goal.decreases-loop-p
-decreases-loop-p l = l.n - l.p
+invariant-loop-p l = (loop_up_to l.rows l.p ≡ None)

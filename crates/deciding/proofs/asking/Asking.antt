@@ -2,6 +2,8 @@
 -- Assumes nothing.
 use mathlib.Core.Path.{◌≡◌, refl, ap}
 use mathlib.Core.List.{List}
+use lib.ListN.{length}
+use Rattle.std.specs.Prelude.{Option, Some, None}
 use Prim.Native.Nat.{ℕ, zero, suc, ◌+◌, ◌*◌, ◌-◌, ◌≤◌, ◌<◌}
 use native.Mathlib.Omega.{arith}
 use native.Mathlib.Decide.{dec_lt, ℕ_discrete}
@@ -12,16 +14,15 @@ use Rattle.theory.specs.Sum.{sum, cells}
 use Rattle.theory.specs.Saving.{tick}
 use Rattle.theory.proofs.SumLaws.{sum_mono}
 use Rattle.theory.proofs.RunLaws.{tick_past, tick_run}
-use Rattle.nets.specs.Layout.{BASE, HEAD, LENGTH, LOAD, SAVING, TAIL, TIME}
-use Rattle.nets.specs.Net.{length_at, saving_at, gain_of}
-use Rattle.nets.specs.Sheet.{tails_in, heads_in, base_in, lengths_in, savings_in, gain_in, BendsIn, net_in, time_in, load_in}
-use Rattle.nets.proofs.Regions.{region_length, region_cell}
-use Rattle.mainloop.proofs.judging.Judging.{flat, gain_past}
+use Rattle.nets.specs.declared.Net.{Net}
+use Rattle.nets.specs.Network.{length_at, saving_at, gain_of}
+use Rattle.nets.specs.Sheet.{gain_in, BendsIn, net_in}
+use Rattle.nets.proofs.Gains.{flat, gain_past}
 use Rattle.deciding.specs.Asking.{Above, Early, Says, Says.short, Says.long, Says.fits}
 use Rattle.deciding.specs.Asking.{PlacedIn, ends_in, AsksIn}
 use Rattle.deciding.specs.declared.asking.Ends.{Ends}
 use Rattle.deciding.specs.declared.asking.Raise.{Raise}
-use Rattle.deciding.proofs.Rising.{asks_head, asks_tail, asks_none}
+use Rattle.deciding.proofs.Rising.{asks_head, asks_tail}
 
 -- ---- how many ticks save more
 -- where no run saves more than the one before it, no tick from run i on saves more than run i
@@ -42,135 +43,87 @@ module _ (length saving : ℕ → ℕ) (falls : (i : ℕ) → suc i < 4 → savi
   pub from_less : (i j : ℕ) → i < 4 → sum i length ≤ j → tick length saving 4 j ≤ saving i
   from_less i j h l = from_run (4 - i) i j (omega arith) l (saving i) (λ k m n. steps k i m n)
 
-module _ (net : List ℕ) (a x : ℕ) (c : BendsIn net a) where
+module _ (net : Net) (a x : ℕ) (c : BendsIn net a) (room : length net.length ≡ 256) where
   pub above_flat : 64 ≤ a → Above (gain_in net a) x 0
   above_flat h = record {
     more = λ j l. absurd (omega arith);
-    rest = λ j l. omega (arith, gain_past (lengths_in net) (savings_in net) a j (omega (arith, flat (lengths_in net) (savings_in net) a (region_length net LENGTH 256) h)));
+    rest = λ j l. omega (arith, gain_past net.length net.saving a j (omega (arith, flat net.length net.saving a room h)));
     few = omega arith;
   }
 
 -- the first n ticks, those of the first i runs, save more than x
-pub record Counted (net : List ℕ) (a x i n : ℕ) : Type 0 where
-  pub ticks : n ≡ sum i (length_at (lengths_in net) a)
+pub record Counted (net : Net) (a x i n : ℕ) : Type 0 where
+  pub ticks : n ≡ sum i (length_at net.length a)
   pub more : (j : ℕ) → j < n → x < gain_in net a j
 
-module _ (net : List ℕ) (a x : ℕ) where
+module _ (net : Net) (a x : ℕ) where
   pub count_begins : Counted net a x 0 0
   unfolding sum
   count_begins = record { ticks = refl; more = λ j l. absurd (omega arith) }
 
   module _ (c : BendsIn net a) (h : a < 64) (i n : ℕ) (p : Counted net a x i n) where
     few : i ≤ 4 → n ≤ 4095
-    few l = omega (arith, p.ticks, c.slowest h, sum_mono (length_at (lengths_in net) a) i 4 l)
+    few l = omega (arith, p.ticks, c.slowest h, sum_mono (length_at net.length a) i 4 l)
 
     pub count_ends : i ≤ 4 → 4 ≤ i → Above (gain_in net a) x n
     count_ends l m =
         let e : i ≡ 4 = omega arith in
         record {
           more = p.more;
-          rest = λ j k. omega (arith, gain_past (lengths_in net) (savings_in net) a j (omega (arith, p.ticks, ap (λ y. sum y (length_at (lengths_in net) a)) e)));
+          rest = λ j k. omega (arith, gain_past net.length net.saving a j (omega (arith, p.ticks, ap (λ y. sum y (length_at net.length a)) e)));
           few = few l;
         }
 
     module _ (m : i < 4) where
-      length_read : cells (lengths_in net) (4 * a + i) ≡ cells net (LENGTH + (4 * a + i))
-      length_read = region_cell net LENGTH 256 (4 * a + i) (omega arith)
-
-      saving_read : cells (savings_in net) (4 * a + i) ≡ cells net (SAVING + (4 * a + i))
-      saving_read = region_cell net SAVING 256 (4 * a + i) (omega arith)
-
-      pub count_stops : cells net (SAVING + (4 * a + i)) ≤ x → Above (gain_in net a) x n
+      pub count_stops : cells net.saving (4 * a + i) ≤ x → Above (gain_in net a) x n
       unfolding gain_of
       count_stops k = record {
         more = p.more;
-        rest = λ j l. omega (arith, saving_read, from_less (length_at (lengths_in net) a) (saving_at (savings_in net) a) (c.falls h) i j m (omega (arith, p.ticks)));
+        rest = λ j l. omega (arith, from_less (length_at net.length a) (saving_at net.saving a) (c.falls h) i j m (omega (arith, p.ticks)));
         few = few (omega arith);
       }
 
-      upto : n + cells net (LENGTH + (4 * a + i)) ≡ sum (suc i) (length_at (lengths_in net) a)
+      upto : n + cells net.length (4 * a + i) ≡ sum (suc i) (length_at net.length a)
       unfolding sum
-      upto = omega (arith, p.ticks, length_read)
+      upto = omega (arith, p.ticks)
 
-      pub count_fits : Fits w32 (n + cells net (LENGTH + (4 * a + i)))
-      count_fits = omega (arith, upto, c.slowest h, sum_mono (length_at (lengths_in net) a) (suc i) 4 (omega arith))
+      pub count_fits : Fits w32 (n + cells net.length (4 * a + i))
+      count_fits = omega (arith, upto, c.slowest h, sum_mono (length_at net.length a) (suc i) 4 (omega arith))
 
-      pub count_more : x < cells net (SAVING + (4 * a + i)) → Counted net a x (i + 1) (n + cells net (LENGTH + (4 * a + i)))
+      pub count_more : x < cells net.saving (4 * a + i) → Counted net a x (i + 1) (n + cells net.length (4 * a + i))
       unfolding gain_of
       count_more k = record {
         ticks = rw (add-one i) upto;
         more = λ j l.
             elim (dec_lt j n) [
               | yes q ↦ p.more j q
-              | no q ↦ omega (arith, saving_read, tick_run (length_at (lengths_in net) a) (saving_at (savings_in net) a) 4 i j m (omega (arith, p.ticks)) (omega (arith, upto)))
+              | no q ↦ omega (arith, tick_run (length_at net.length a) (saving_at net.saving a) 4 i j m (omega (arith, p.ticks)) (omega (arith, upto)))
             ];
       }
 
 -- ---- the ways of `ask`
 module _ (g : ℕ → ℕ) (k : Ends) (low : ℕ) (p : Above g k.load low) where
-  pub ask_short : k.to < k.from + k.base + low → Says g k (record { node = k.head; time = k.from + k.base + low })
+  pub ask_short : k.to < k.from + k.base + low → Says g k (Some (record { node = k.head; time = k.from + k.base + low }))
   ask_short l = short low p refl refl l
 
-  pub ask_none : k.from + k.base + low ≤ k.to → k.load ≡ 0 → Says g k (record { node = 130; time = 0 })
-  ask_none l e = fits (omega arith) (omega arith) (record { used = λ j i. omega arith; unused = λ j i. p.rest j (omega arith) })
+  pub ask_none : k.from + k.base + low ≤ k.to → k.load ≡ 0 → Says g k None
+  ask_none l e = fits (omega arith) (record { used = λ j i. omega arith; unused = λ j i. p.rest j (omega arith) })
 
   module _ (some : k.load ≡ 0 → ⊥) (high : ℕ) (q : Above g (k.load - 1) high) where
-    pub ask_long : k.from + k.base + high < k.to → Says g k (record { node = k.tail; time = k.from + (k.to - (k.from + k.base + high)) })
+    pub ask_long : k.from + k.base + high < k.to → Says g k (Some (record { node = k.tail; time = k.from + (k.to - (k.from + k.base + high)) }))
     ask_long l = long high some q refl (omega arith) (omega arith)
 
-    pub ask_nothing : k.from + k.base + low ≤ k.to → k.to ≤ k.from + k.base + high → Says g k (record { node = 130; time = 0 })
-    ask_nothing l m =
-        fits (omega arith) (omega arith) (record { used = λ j i. omega (arith, q.more j (omega arith)); unused = λ j i. p.rest j (omega arith) })
+    pub ask_nothing : k.from + k.base + low ≤ k.to → k.to ≤ k.from + k.base + high → Says g k None
+    ask_nothing l m = fits (omega arith) (record { used = λ j i. omega (arith, q.more j (omega arith)); unused = λ j i. p.rest j (omega arith) })
 
 -- ---- what an arc of the sheets says
-pub ends_read : (net w : List ℕ) (a : ℕ) →
-    ◌≡◌ {A = Ends} (record {
-      tail = cells net (TAIL + a);
-      head = cells net (HEAD + a);
-      from = cells w (TIME + cells net (TAIL + a));
-      base = cells net (BASE + a);
-      to = cells w (TIME + cells net (HEAD + a));
-      load = cells w (LOAD + a);
-    }) (ends_in net w a)
-unfolding ends_in
-ends_read net w a = refl
-
-module _ (net w : List ℕ) (a : ℕ) (p : PlacedIn net w a) where
-  tail_is : cells (tails_in net) a ≡ cells net (TAIL + a)
-  tail_is = region_cell net TAIL 448 a p.arc_in
-
-  head_is : cells (heads_in net) a ≡ cells net (HEAD + a)
-  head_is = region_cell net HEAD 448 a p.arc_in
-
-  base_is : cells (base_in net) a ≡ cells net (BASE + a)
-  base_is = region_cell net BASE 448 a p.arc_in
-
-  load_is : cells (load_in w) a ≡ cells w (LOAD + a)
-  load_is = region_cell w LOAD 448 a p.arc_in
-
-  from_is : cells (time_in w) (cells (tails_in net) a) ≡ cells w (TIME + cells net (TAIL + a))
-  from_is = rw tail_is (region_cell w TIME 130 (cells net (TAIL + a)) p.tail_in)
-
-  to_is : cells (time_in w) (cells (heads_in net) a) ≡ cells w (TIME + cells net (HEAD + a))
-  to_is = rw head_is (region_cell w TIME 130 (cells net (HEAD + a)) p.head_in)
-
-  i : cells (tails_in net) a < 130
-  i = omega (arith, tail_is, p.tail_in)
-
-  k : cells (heads_in net) a < 130
-  k = omega (arith, head_is, p.head_in)
-
-  pub ends_early : Early (ends_in net w a)
+module _ (net : Net) (t x : List ℕ) (a : ℕ) (p : PlacedIn net t a) where
+  pub ends_early : Early (ends_in net t x a)
   unfolding ends_in
   ends_early = record { from_most = p.tail_most; base_most = p.base_most; to_most = p.head_most }
 
-  pub says_asks : (r : Raise) → Says (gain_in net a) (ends_in net w a) r → AsksIn net w a r
+  pub says_asks : (r : Option Raise) → Says (gain_in net a) (ends_in net t x a) r → AsksIn net t x a r
   unfolding ends_in AsksIn
-  says_asks r (short low q n e l) =
-      asks_head (net_in net) (cells (load_in w)) (cells (time_in w)) a i k r low (rw load_is q) (omega (arith, head_is)) (omega (arith, base_is, from_is)) (omega (arith, to_is))
-  says_asks r (long high some q n e l) =
-      asks_tail (net_in net) (cells (load_in w)) (cells (time_in w)) a i k r high (λ z. some (omega (arith, load_is))) (rw load_is q) (omega (arith, tail_is))
-      (omega (arith, base_is, to_is)) (omega (arith, from_is))
-  says_asks r (fits n l s) =
-      asks_none (net_in net) (cells (load_in w)) (cells (time_in w)) a i k r n
-      (record { base = omega (arith, from_is, to_is, base_is); suits = rw (from_is, to_is, base_is, load_is) s })
+  says_asks (Some r) (short low q n e l) = asks_head (net_in net) (cells x) (cells t) a p.tail_in p.head_in r low q n e l
+  says_asks (Some r) (long high some q n e l) = asks_tail (net_in net) (cells x) (cells t) a p.tail_in p.head_in r high some q n e l
+  says_asks None (fits l s) = record { base = l; suits = s }

@@ -1,8 +1,12 @@
-use Rattle.design.proofs.Ways.{design_no_version, design_read_lem}
+use mathlib.Core.Path.{sym}
+use Rattle.fields.proofs.ParseLaws.{field_got}
 use Rattle.design.proofs.read_design.Goals as goal
 
-pub returns-in-Refused : goal.returns-in-Refused
-returns-in-Refused c = search (design_no_version, design_read_lem)
+pub read_parts-requires : goal.read_parts-requires
+read_parts-requires c = (field_got _ _ _ _ _ _ (sym c.in_ok-parts.ensures)).to
 
-pub returns-in-Number : goal.returns-in-Number
-returns-in-Number c = search (design_no_version, design_read_lem)
+pub read_links-requires : goal.read_links-requires
+read_links-requires c =
+    let parts = field_got _ _ _ _ _ _ (sym c.in_ok-parts.ensures) in
+    let links = field_got _ _ _ _ _ _ (sym c.in_ok-count.ensures) in
+    (parts.from, parts.to, links.to)

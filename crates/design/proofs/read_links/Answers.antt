@@ -1,15 +1,37 @@
-use Rattle.design.proofs.Ways.{links_start, none_before, links_long, still_long, last_before, links_on, links_fault, links_end}
+use mathlib.Core.Path.{refl, sym, ap, ◌∙◌}
+use native.Mathlib.Omega.{arith}
+use native.Mathlib.Numerals.{add-one}
+use Rattle.std.specs.Prelude.{Some}
+use lib.ListN.{length-set}
+use lib.Seq.{get_or-set_same}
 use borrow.Author.Rules.{rules}
+use Rattle.board.specs.Board.{no_link}
+use Rattle.board.specs.Tests.{blank_links}
+use Rattle.fields.specs.Parse.{repeat}
+use Rattle.design.specs.Design.{link_in, links_from}
+use Rattle.design.proofs.Rows.{row_on, row_fault, row_ended}
 use Rattle.design.proofs.read_links.Goals as goal
 
 pub loop-l-init : goal.loop-l-init
-loop-l-init c = (search rules, search (links_start), search (none_before), search (links_long))
+unfolding repeat blank_links
+loop-l-init c = (rw c.no_links-link.ensures, refl, rw c.no_links-link.ensures)
 
-pub returns-in_default : goal.returns-in_default
-returns-in_default c = search (links_fault)
+pub returns-in_err-read : goal.returns-in_err-read
+unfolding links_from
+returns-in_err-read c =
+    let reads = rw c.loop-l.invariant.1 at c.in_err-read.ensures in
+    let stops = row_fault (link_in c.args.s.now c.args.parts) blank_links c.args.at c.loop-l.l _ _ c.loop-l.invariant.0 _ c.args.links (sym reads) (search rules) in
+    rw stops (search rules)
 
 pub loop-l-preserved : goal.loop-l-preserved
-loop-l-preserved c = (search rules, search (links_on), last_before c.loop-l.link c.loop-l.l _ (search rules) (search rules), search (still_long))
+loop-l-preserved c =
+    let reads = rw c.loop-l.invariant.1 at c.in_ok-read.ensures in
+    let long = c.loop-l.invariant.2 in (
+      row_on (link_in c.args.s.now c.args.parts) blank_links c.args.at c.loop-l.l _ _ c.loop-l.invariant.0 _ _ (sym reads),
+      rw add-one (ap Some (sym (get_or-set_same c.loop-l.link c.loop-l.l c.in_ok-read.read.value no_link (omega arith)))),
+      length-set c.loop-l.link c.loop-l.l c.in_ok-read.read.value ∙ long,
+    )
 
 pub returns : goal.returns
-returns c = search (links_end)
+unfolding links_from
+returns c = sym (row_ended (link_in c.args.s.now c.args.parts) blank_links c.args.at c.loop-l.l _ _ c.loop-l.invariant.0 c.args.links (search rules) (search rules))

@@ -1,10 +1,8 @@
--- `desk::load` meets its contract.
--- Assumes nothing.
-use Rattle.desk.proofs.Judging.{load_unruled, load_ruled}
+use Rattle.desk.proofs.Judging.{load_done, load_turned}
 use Rattle.desk.proofs.load.Goals as goal
 
-pub returns-then-rule-gt1 : goal.returns-then-rule-gt1
-returns-then-rule-gt1 c = search (load_unruled)
+pub returns-in-Ok : goal.returns-in-Ok
+returns-in-Ok c = search (load_done, c.in-Ok.ensures)
 
-pub returns : goal.returns
-returns c = search (load_ruled)
+pub returns-in-Err : goal.returns-in-Err
+returns-in-Err c = search (load_turned, c.in-Err.ensures)

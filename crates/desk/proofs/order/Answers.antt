@@ -1,14 +1,8 @@
-use Rattle.desk.proofs.Ordering.{unread_countable, read_orderly, order_unread, order_attempted}
+use Rattle.desk.proofs.Ordering.{unread_countable, read_orderly}
 use Rattle.desk.proofs.order.Goals as goal
 
 pub refuse-requires : goal.refuse-requires
-refuse-requires c = search (unread_countable)
+refuse-requires c = search (unread_countable, c.in-Err.ensures)
 
-pub attempt-requires : goal.attempt-requires
-attempt-requires c = search (read_orderly)
-
-pub returns-in-Refused : goal.returns-in-Refused
-returns-in-Refused c = search (order_unread)
-
-pub returns-in-Done : goal.returns-in-Done
-returns-in-Done c = search (order_attempted)
+pub made-requires : goal.made-requires
+made-requires c = search (read_orderly, c.in-Ok.ensures)

@@ -1,20 +1,16 @@
 -- `edits::has_link` meets its contract.
 -- Assumes nothing.
-use Rattle.edits.proofs.Ways.{too_many_links, none_found, not_found, link_found, all_looked}
-use borrow.Author.Rules.{rules}
+use Rattle.std.proofs.Common.{◌&&◌, eqb, take, rules, tests}
+use Rattle.std.proofs.lemmas.Iterator.{YieldsList-from_slice}
+use Rattle.std.proofs.lemmas.Iterator.Search.{any_from_yields_List}
+use Rattle.board.specs.declared.Link.{Link}
+use Rattle.edits.proofs.Ways.{too_many_links, looked_all}
 use Rattle.edits.proofs.has_link.Goals as goal
 
 pub returns-then-n-gt256 : goal.returns-then-n-gt256
 returns-then-n-gt256 c = search (too_many_links)
 
-pub loop-l-init : goal.loop-l-init
-loop-l-init c = (search rules, none_found _)
-
-pub returns-then-same_ends : goal.returns-then-same_ends
-returns-then-same_ends c = search (link_found)
-
-pub loop-l-preserved : goal.loop-l-preserved
-loop-l-preserved c = (search rules, search (not_found))
-
 pub returns : goal.returns
-returns c = search (all_looked)
+returns c =
+    let found = any_from_yields_List (λ (l : Link). eqb l.from c.args.from && eqb l.to c.args.to) _ _ c.any.result c.any.ensures.ran (YieldsList-from_slice (take c.args.b.links c.args.b.link) cc) (λ x b q k. search (rules, tests)) in
+    search (looked_all, found)

@@ -1,11 +1,7 @@
--- What the loop keeps, and its measure.
+-- What the loop keeps.
 use mathlib.Core.Path.{◌≡◌}
-use Prim.Native.Nat.{◌≤◌, ◌-◌}
 use Rattle.edits.specs.Edits.{count_before}
 use Rattle.edits.proofs.place_of.Given as goal
 
 abbrev pub invariant-loop-l : goal.invariant-loop-l
-invariant-loop-l l = (l.l ≤ l.n) × (l.place ≡ count_before l.b l.x l.l)
-
-abbrev pub decreases-loop-l : goal.decreases-loop-l
-decreases-loop-l l = l.n - l.l
+invariant-loop-l l = l.place ≡ count_before l.b l.x l.l

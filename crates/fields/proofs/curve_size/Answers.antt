@@ -6,4 +6,4 @@ pub returns-then-c-gt-RUNS_MAX : goal.returns-then-c-gt-RUNS_MAX
 returns-then-c-gt-RUNS_MAX c = (search (curve_uncounted), search rules)
 
 pub returns : goal.returns
-returns c = (search (curve_counted), search rules)
+returns c = (search curve_counted, search rules)

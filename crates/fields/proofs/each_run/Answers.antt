@@ -1,18 +1,10 @@
-use mathlib.Core.Path.{refl}
-use Rattle.fields.specs.Parse.{repeat}
-use Rattle.fields.proofs.Ways.{runs_on, runs_fault, runs_end}
+use mathlib.Core.Path.{sym}
 use borrow.Author.Rules.{rules}
+use Rattle.fields.specs.CurveFile.{run_from}
+use Rattle.fields.proofs.ParseLaws.{repeat_fault}
 use Rattle.fields.proofs.each_run.Goals as goal
 
-pub loop-i-init : goal.loop-i-init
-unfolding repeat
-loop-i-init c = (search rules, refl)
-
-pub returns-in_default : goal.returns-in_default
-returns-in_default c = search (runs_fault)
-
-pub loop-i-preserved : goal.loop-i-preserved
-loop-i-preserved c = (search rules, search (runs_on))
-
-pub returns : goal.returns
-returns c = search (runs_end)
+pub returns-in_err-so_far : goal.returns-in_err-so_far
+returns-in_err-so_far c =
+    let stops = repeat_fault (run_from c.args.s.now) c.args.c c.args.at c.loop-i.i c.args.c.count _ _ _ c.loop-i.invariant (sym c.in_err-so_far.ensures) (search rules) in
+    rw stops (search rules)

@@ -11,8 +11,5 @@ loop-rest-preserved c = (search wrote_more, search ends_more, search rest_below,
 pub bounds-buf-next-2 : goal.bounds-buf-next-2
 bounds-buf-next-2 c = search room
 
-pub shape_of-buf : goal.shape_of-buf
-shape_of-buf c = search long_still
-
 pub returns : goal.returns
 returns c = search (ends_last, wrote_last)

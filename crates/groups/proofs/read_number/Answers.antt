@@ -17,11 +17,11 @@ overflow_mul-sum c = search group_fits
 pub overflow_add-sum : goal.overflow_add-sum
 overflow_add-sum c = search sum_fits
 
-pub returns-then-shortest_end : goal.returns-then-shortest_end
-returns-then-shortest_end c = number_read _ _ _ _ _ _ c.loop-left.invariant.0 (search rules) (search rules) _ _ (search rules) c.shortest_end.ensures c.if-shortest_end.true c.seven_bits.ensures.0
+pub returns-then-not-shortest_end : goal.returns-then-not-shortest_end
+returns-then-not-shortest_end c = search not_shortest
 
 pub returns-then-g-lt128 : goal.returns-then-g-lt128
-returns-then-g-lt128 c = search not_shortest
+returns-then-g-lt128 c = number_read _ _ _ _ _ _ c.loop-left.invariant.0 (search rules) (search rules) _ _ (search rules) c.shortest_end.ensures c.if-not-shortest_end.false c.seven_bits.ensures.0
 
 pub overflow_mul-scale : goal.overflow_mul-scale
 overflow_mul-scale c = search scale_fits

@@ -1,20 +1,11 @@
--- `after_orders` meets its contract.
--- Assumes nothing.
-use Rattle.hosted.proofs.Ways.{orders_begun, order_last, order_over, order_more, order_past}
-use borrow.Author.Rules.{rules}
+use Rattle.hosted.proofs.Ways.{order_last, order_over, order_more}
 use Rattle.hosted.proofs.after_orders.Goals as goal
 
-pub loop-at-init : goal.loop-at-init
-loop-at-init c = (search rules, orders_begun _ _)
+pub returns-then-o-eq0 : goal.returns-then-o-eq0
+returns-then-o-eq0 c = search (order_last)
 
-pub returns-then-took-eq0 : goal.returns-then-took-eq0
-returns-then-took-eq0 c = search (order_last, order_over)
+pub returns-then-rest-o : goal.returns-then-rest-o
+returns-then-rest-o c = search (order_over)
 
-pub returns-then-orders-at : goal.returns-then-orders-at
-returns-then-orders-at c = search (order_last, order_over)
-
-pub loop-at-preserved : goal.loop-at-preserved
-loop-at-preserved c = (search rules, search (order_more))
-
-pub returns : goal.returns
-returns c = search (order_past)
+pub loop-rest-preserved : goal.loop-rest-preserved
+loop-rest-preserved c = search (order_more)

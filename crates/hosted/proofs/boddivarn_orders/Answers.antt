@@ -1,5 +1,3 @@
--- `boddivarn_orders` meets its contract.
--- Assumes nothing.
 use Rattle.hosted.proofs.Ways.{orders_of}
 use Rattle.hosted.proofs.boddivarn_orders.Goals as goal
 

@@ -1,6 +1,6 @@
 -- `kin::critical` meets its contract.
 -- Assumes nothing.
-use Rattle.kin.proofs.Ways.{from_past, to_past, too_early, compared}
+use Rattle.kin.proofs.Ways.{from_past, to_past, compared}
 use Rattle.kin.proofs.critical.Goals as goal
 
 pub returns-then-p-ge64 : goal.returns-then-p-ge64
@@ -8,9 +8,6 @@ returns-then-p-ge64 c = search (from_past)
 
 pub returns-then-q-ge64 : goal.returns-then-q-ge64
 returns-then-q-ge64 c = search (to_past)
-
-pub returns-then-s-e : goal.returns-then-s-e
-returns-then-s-e c = search (too_early)
 
 pub returns : goal.returns
 returns c = search (compared)

@@ -1,11 +1,7 @@
--- What the loop keeps, and its measure.
+-- What the loop keeps.
 use mathlib.Core.Path.{◌≡◌}
-use Prim.Native.Nat.{◌-◌, ◌≤◌}
 use Rattle.kin.specs.Steps.{rows_up_to}
 use Rattle.kin.proofs.critical_rows.Given as goal
 
 abbrev pub invariant-loop-k : goal.invariant-loop-k
-invariant-loop-k l = (l.k ≤ l.n) × (l.t ≡ rows_up_to l.b l.held l.k)
-
-abbrev pub decreases-loop-k : goal.decreases-loop-k
-decreases-loop-k l = l.n - l.k
+invariant-loop-k l = l.t ≡ rows_up_to l.b l.held l.k

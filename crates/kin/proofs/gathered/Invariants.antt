@@ -1,11 +1,7 @@
--- What the loop keeps, and its measure.
+-- What the loop keeps.
 use mathlib.Core.Path.{◌≡◌}
-use Prim.Native.Nat.{◌-◌, ◌≤◌}
 use Rattle.kin.specs.Steps.{gathered_up_to}
 use Rattle.kin.proofs.gathered.Given as goal
 
 abbrev pub invariant-loop-k : goal.invariant-loop-k
-invariant-loop-k l = (l.k ≤ 64) × (l.s ≡ gathered_up_to l.rows l.seen l.set l.k)
-
-abbrev pub decreases-loop-k : goal.decreases-loop-k
-decreases-loop-k l = 64 - l.k
+invariant-loop-k l = l.s ≡ gathered_up_to l.rows l.seen l.set l.k

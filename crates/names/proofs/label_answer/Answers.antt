@@ -1,8 +1,8 @@
 use Rattle.names.proofs.SheetLaws.{no_label, a_label}
 use Rattle.names.proofs.label_answer.Goals as goal
 
-pub returns-then-found-eq0 : goal.returns-then-found-eq0
-returns-then-found-eq0 c = search (no_label)
+pub returns-then-is_empty : goal.returns-then-is_empty
+returns-then-is_empty c = search no_label
 
 pub returns : goal.returns
-returns c = search (a_label)
+returns c = search a_label

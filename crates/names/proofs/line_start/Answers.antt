@@ -1,16 +1,16 @@
-use mathlib.Core.Path.{refl}
-use Rattle.names.proofs.SheetLaws.{line_here, line_none, line_next}
 use borrow.Author.Rules.{rules}
+use Rattle.names.proofs.SheetLaws.{line_here, line_over, line_passed, line_goes_on}
+use Rattle.names.proofs.line_start.Goals.{then-sheet-at-eq-LINE_END, else-sheet-at-eq-LINE_END}
 use Rattle.names.proofs.line_start.Goals as goal
 
-pub loop-at-init : goal.loop-at-init
-loop-at-init c = (search rules, refl)
-
 pub returns-then-left-eq0 : goal.returns-then-left-eq0
-returns-then-left-eq0 c = (search rules, search (line_here, line_none))
+returns-then-left-eq0 c = (search rules, search line_here)
 
 pub loop-at-preserved : goal.loop-at-preserved
-loop-at-preserved c = (search rules, search (line_next))
+loop-at-preserved c = elim c.if-sheet-at-eq-LINE_END.branch [
+  | then-sheet-at-eq-LINE_END w ↦ search line_passed
+  | else-sheet-at-eq-LINE_END w ↦ search line_goes_on
+]
 
 pub returns : goal.returns
-returns c = (search rules, search (line_here, line_none))
+returns c = (search rules, search line_over)

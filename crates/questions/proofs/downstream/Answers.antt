@@ -1,10 +1,8 @@
--- `downstream` meets its contract.
--- Assumes nothing.
-use Rattle.questions.proofs.Answering.{downstream_given, downstream_none}
+use borrow.Author.Rules.{rules}
+use Rattle.questions.specs.Sets.{DownstreamSaid}
+use Rattle.questions.proofs.Answering.{cone_formed}
 use Rattle.questions.proofs.downstream.Goals as goal
 
-pub returns-in-Refused : goal.returns-in-Refused
-returns-in-Refused c = search (downstream_given, downstream_none)
-
-pub returns-in-Done : goal.returns-in-Done
-returns-in-Done c = search (downstream_given, downstream_none)
+pub returns : goal.returns
+unfolding DownstreamSaid
+returns c = cone_formed _ _ _ _ _ (λ b s post w. search rules) c.cone.ensures

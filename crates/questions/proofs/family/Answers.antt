@@ -1,10 +1,10 @@
--- `family` meets its contract.
--- Assumes nothing.
-use Rattle.questions.proofs.Answering.{family_given, family_none}
+use Rattle.questions.specs.Sets.{FamilySaid}
+use Rattle.questions.proofs.Answering.{turned, family_given}
 use Rattle.questions.proofs.family.Goals as goal
 
-pub returns-in-Refused : goal.returns-in-Refused
-returns-in-Refused c = search (family_given, family_none)
+pub returns-in_err-held : goal.returns-in_err-held
+unfolding FamilySaid
+returns-in_err-held c = search (turned, c.in_err-held.ensures)
 
-pub returns-in-Done : goal.returns-in-Done
-returns-in-Done c = search (family_given, family_none)
+pub returns : goal.returns
+returns c = search (family_given, c.in_ok-held.ensures)

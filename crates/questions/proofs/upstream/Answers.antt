@@ -1,10 +1,8 @@
--- `upstream` meets its contract.
--- Assumes nothing.
-use Rattle.questions.proofs.Answering.{upstream_given, upstream_none}
+use borrow.Author.Rules.{rules}
+use Rattle.questions.specs.Sets.{UpstreamSaid}
+use Rattle.questions.proofs.Answering.{cone_formed}
 use Rattle.questions.proofs.upstream.Goals as goal
 
-pub returns-in-Refused : goal.returns-in-Refused
-returns-in-Refused c = search (upstream_given, upstream_none)
-
-pub returns-in-Done : goal.returns-in-Done
-returns-in-Done c = search (upstream_given, upstream_none)
+pub returns : goal.returns
+unfolding UpstreamSaid
+returns c = cone_formed _ _ _ _ _ (λ b s post w. search rules) c.cone.ensures

@@ -1,13 +1,13 @@
--- `slow::walk` meets its contract. The parts left to visit fall at each call.
+-- `slow::walk` meets its contract.
 -- Assumes nothing.
-use Rattle.slow.proofs.Ways.{spent, no_part, onward}
+use Rattle.slow.proofs.Ways.{nowhere, stopped, onward}
 use Rattle.slow.proofs.+walk.Goals as goal
 
-pub returns-then-left-eq0 : goal.returns-then-left-eq0
-returns-then-left-eq0 t c = search (spent)
+pub returns-in_default : goal.returns-in_default
+returns-in_default t c = search (nowhere)
 
-pub returns-then-at-ge64 : goal.returns-then-at-ge64
-returns-then-at-ge64 t c = search (no_part)
+pub returns-then-left-eq0 : goal.returns-then-left-eq0
+returns-then-left-eq0 t c = search (stopped)
 
 pub returns : goal.returns
 returns t c = search (onward)

@@ -1,12 +1,9 @@
--- What the loop keeps, and its measure.
+-- What the loop keeps.
 use Rattle.times.specs.Rounds.{InPlaces}
 use Rattle.slow.specs.Walk.{backs_of}
-use Prim.Native.Nat.{◌≤◌, ◌-◌}
 use mathlib.Core.Path.{◌≡◌}
+use lib.ListN.{length}
 use Rattle.slow.proofs.backs.Given as goal
 
-abbrev pub invariant-loop-k : goal.invariant-loop-k
-invariant-loop-k l = (l.k ≤ l.n) × (InPlaces l.link l.n → l.back ≡ backs_of l.link l.s l.e l.k)
-
-abbrev pub decreases-loop-k : goal.decreases-loop-k
-decreases-loop-k l = l.n - l.k
+abbrev pub invariant-loop-l : goal.invariant-loop-l
+invariant-loop-l l = InPlaces l.link (length l.link) → l.back ≡ backs_of l.link l.s l.e l.l-index

@@ -15,14 +15,14 @@ use Rattle.board.proofs.UsableLaws.{usable_to}
 use Rattle.times.specs.declared.Schedule.{Schedule}
 use Rattle.times.specs.Times.{slowests_of, TimesOf, Loopless}
 use Rattle.times.proofs.TimesLaws.{slowest_at_lem, slowest_few, times_timed, times_to}
-use Rattle.nets.specs.Net.{Net}
+use Rattle.nets.specs.Network.{Network}
 use Rattle.nets.specs.Flow.{Fit}
 use Rattle.nets.specs.Wired.{Wired, link_arc, entry_arc, exit_arc}
 use Rattle.nets.proofs.Arcs.{each_arc}
 use Rattle.solver.specs.Solve.{Solvable}
 use Rattle.solver.specs.Finding.{Begun}
 
-module _ (b : Board) (can : Solvable b) (N : Net) (w : Wired (view b) N) (d : List Ticks) (is : d ≡ slowests_of b) (s : Schedule) (times : TimesOf (view b) d s)
+module _ (b : Board) (can : Solvable b) (N : Network) (w : Wired (view b) N) (d : List Ticks) (is : d ≡ slowests_of b) (s : Schedule) (times : TimesOf (view b) d s)
     (t : List ℕ) (begun : Begun s.start s.end (usable b) t) where
   abbrev ok : WellFormed b
   ok = can.formed
@@ -82,7 +82,7 @@ module _ (b : Board) (can : Solvable b) (N : Net) (w : Wired (view b) N) (d : Li
     entry_fits : (p : ℕ) → p < (view b).parts → Fit N (cells t) x (entry_arc (view b) p)
     entry_fits p h =
         idle_flat (entry_arc (view b) p) (omega arith) (omega (arith, w.arcs))
-        (omega (arith, ap (cells t) (w.entry_tail p h), w.entry_base p h, begun.source))
+        (omega (arith, ap (cells t) (w.entry_tail p h), w.entry_base p h, begun.placed.source))
 
     exit_fits : (p : ℕ) → p < (view b).parts → Fit N (cells t) x (exit_arc (view b) p)
     unfolding view
@@ -93,7 +93,7 @@ module _ (b : Board) (can : Solvable b) (N : Net) (w : Wired (view b) N) (d : Li
           ap (cells t) (w.exit_tail p h) ∙ end_at p h,
           ap (cells t) (w.exit_head p h),
           w.exit_base p h,
-          begun.placed.late p (omega (arith, ok.parts_to)),
+          begun.topped.late p (omega (arith, ok.parts_to)),
         ))
 
     pub slowest_fit : (a : ℕ) → a < N.arcs → Fit N (cells t) x a
@@ -117,8 +117,8 @@ module _ (b : Board) (can : Solvable b) (N : Net) (w : Wired (view b) N) (d : Li
       let e : 64 + (v - 64) ≡ v = omega arith in
       omega (arith, ap (cells t) e, begun.placed.ends (v - 64) (omega arith), end_most (v - 64)))
       (λ (k : 128 ≤ v).
-      ⊎_elim (λ (i : v < 129). let e : v ≡ 128 = omega arith in omega (arith, ap (cells t) e, begun.source))
+      ⊎_elim (λ (i : v < 129). let e : v ≡ 128 = omega arith in omega (arith, ap (cells t) e, begun.placed.source))
       (λ (i : 129 ≤ v).
       let e : v ≡ 129 = omega arith in
-      omega (arith, ap (cells t) e, begun.placed.early 149370 (omega (arith, usable_to b ok)) (λ p _. end_most p)))
+      omega (arith, ap (cells t) e, begun.topped.early 149370 (omega (arith, usable_to b ok)) (λ p _. end_most p)))
       (lt_or_le v 129)) (lt_or_le v 128)) (lt_or_le v 64)

@@ -1,9 +1,9 @@
 -- What the arcs of a board save: a part what its curve saves, another arc nothing.
 -- Assumes nothing.
-use Rattle.std.proofs.Common.{◌≡◌, ℕ, zero, suc, ◌+◌, ◌-◌, ◌*◌, ◌/◌, ◌%◌, ◌<◌, ◌≤◌, List, length, refl, ap, ◌∙◌, ⊎_elim, arith}
+use Rattle.std.proofs.Common.{◌≡◌, ℕ, zero, suc, ◌+◌, ◌-◌, ◌*◌, ◌/◌, ◌%◌, ◌<◌, ◌≤◌, List, refl, ap, ◌∙◌, ⊎_elim, arith}
 use lib.ListN.{get_or-eq_default, get_or-replicate}
 use Rattle.base.proofs.Cases.{lt_or_le}
-use Rattle.theory.specs.Sum.{sum, cells}
+use Rattle.theory.specs.Sum.{sum}
 use Rattle.theory.specs.Saving.{tick}
 use Rattle.theory.proofs.SumLaws.{sum_ext, sum_zero, sum_split}
 use Rattle.curve.specs.declared.Run.{Run}
@@ -12,8 +12,9 @@ use Rattle.curve.specs.Curve.{Good, no_run, length_at, saving_at, ticks_of, slow
 use Rattle.curve.proofs.CurveLaws.{slowest_to}
 use Rattle.board.specs.declared.Board.{Board}
 use Rattle.board.specs.Board.{WellFormed, view, curve_at, blank_curve}
-use Rattle.nets.specs.Net.{gain_of, Bends}
-use Rattle.nets.specs.Net as net
+use Rattle.nets.specs.Network.{gain_of, Bends}
+use Rattle.nets.specs.Network as net
+use Rattle.solver.specs.Wiring.{Runs}
 use Rattle.nets.proofs.Gains.{tick_blank, gain_none}
 
 -- ---- ticks of runs that are the same
@@ -69,14 +70,7 @@ unfolding saving_at blank_curve
 blank_saving i h = ap (λ (r : Run). r.saving.0) (get_or-replicate 4 i no_run no_run h)
 
 -- ---- the arcs
--- the runs of all places for a part, four to a part
-pub record Runs (b : Board) (lengths savings : List ℕ) : Type 0 where
-  pub run_length : (i : ℕ) → i < 256 → cells lengths i ≡ length_at (curve_at b (i / 4)) (i % 4)
-  pub run_saving : (i : ℕ) → i < 256 → cells savings i ≡ saving_at (curve_at b (i / 4)) (i % 4)
-  pub length_room : length lengths ≡ 256
-  pub saving_room : length savings ≡ 256
-
-module _ (b : Board) (ok : WellFormed b) (lengths savings : List ℕ) (laid : Runs b lengths savings) where
+module _ (b : Board) (ok : WellFormed b) (lengths savings : List ℕ) (laid : Runs b 256 lengths savings) where
   module _ (a i : ℕ) (h : i < 4) where
     length_is : a < 64 → net.length_at lengths a i ≡ length_at (curve_at b a) i
     length_is l =

@@ -9,7 +9,7 @@ use Rattle.curve.proofs.CurveLaws.{saving_to}
 use Rattle.board.specs.declared.Board.{Board}
 use Rattle.board.specs.Board.{WellFormed, view, curve_at, usable}
 use Rattle.board.proofs.Lawful.{lawful}
-use Rattle.nets.specs.Net.{Net}
+use Rattle.nets.specs.Network.{Network}
 use Rattle.nets.specs.Flow.{World}
 use Rattle.nets.specs.Wired.{Wired}
 use Rattle.nets.proofs.Worlds.{wired_world}
@@ -27,7 +27,7 @@ module _ (b : Board) (ok : WellFormed b) where
       )
 
   -- where all parts at their fastest keep the usable deadline
-  pub board_world : (N : Net) → Wired (view b) N → {s e : ℕ → ℕ} → Timed (view b) (view b).fastest s e → ((p : ℕ) → p < b.parts → e p ≤ usable b) →
+  pub board_world : (N : Network) → Wired (view b) N → {s e : ℕ → ℕ} → Timed (view b) (view b).fastest s e → ((p : ℕ) → p < b.parts → e p ≤ usable b) →
       World N (usable b)
   unfolding view
   board_world N w t ends =

@@ -1,11 +1,7 @@
--- What the loop keeps, and its measure.
+-- What the loop keeps.
 use Rattle.times.specs.Rounds.{ends_of}
 use mathlib.Core.Path.{◌≡◌}
-use Prim.Native.Nat.{◌≤◌, ◌-◌}
 use Rattle.times.proofs.ends.Given as goal
 
 abbrev pub invariant-loop-k : goal.invariant-loop-k
-invariant-loop-k l = (l.k ≤ l.n) × (l.e ≡ ends_of l.s l.delay l.k)
-
-abbrev pub decreases-loop-k : goal.decreases-loop-k
-decreases-loop-k l = l.n - l.k
+invariant-loop-k l = l.e ≡ ends_of l.s l.delay l.k

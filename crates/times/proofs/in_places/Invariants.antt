@@ -1,10 +1,6 @@
--- What the loop keeps, and its measure.
+-- What the loop keeps.
 use Rattle.times.specs.Rounds.{InPlaces}
-use Prim.Native.Nat.{◌≤◌, ◌-◌}
 use Rattle.times.proofs.in_places.Given as goal
 
-abbrev pub invariant-loop-k : goal.invariant-loop-k
-invariant-loop-k l = (l.k ≤ l.n) × InPlaces l.link l.k
-
-abbrev pub decreases-loop-k : goal.decreases-loop-k
-decreases-loop-k l = l.n - l.k
+abbrev pub invariant-loop-l : goal.invariant-loop-l
+invariant-loop-l l = InPlaces l.link l.l-index

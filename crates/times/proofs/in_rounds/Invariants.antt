@@ -1,11 +1,8 @@
--- What the loop keeps, and its measure.
-use Prim.Native.Nat.{◌≤◌, ◌-◌}
+-- What the loop keeps.
+use lib.ListN.{length}
 use mathlib.Core.Path.{◌≡◌}
 use Rattle.times.proofs.Rounds.{round_of}
 use Rattle.times.proofs.in_rounds.Given as goal
 
 abbrev pub invariant-loop-k : goal.invariant-loop-k
-invariant-loop-k l = (l.k ≤ 65) × (l.e ≡ round_of l.link l.links l.parts l.delay l.k)
-
-abbrev pub decreases-loop-k : goal.decreases-loop-k
-decreases-loop-k l = 65 - l.k
+invariant-loop-k l = l.e ≡ round_of l.link (length l.link) l.parts l.delay l._k

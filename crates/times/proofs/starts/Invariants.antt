@@ -1,11 +1,7 @@
--- What the loop keeps, and its measure.
+-- What the loop keeps.
 use Rattle.times.specs.Rounds.{starts_of}
 use mathlib.Core.Path.{◌≡◌}
-use Prim.Native.Nat.{◌≤◌, ◌-◌}
 use Rattle.times.proofs.starts.Given as goal
 
-abbrev pub invariant-loop-k : goal.invariant-loop-k
-invariant-loop-k l = (l.k ≤ l.n) × (l.s ≡ starts_of l.link l.k l.e)
-
-abbrev pub decreases-loop-k : goal.decreases-loop-k
-decreases-loop-k l = l.n - l.k
+abbrev pub invariant-loop-l : goal.invariant-loop-l
+invariant-loop-l l = l.s ≡ starts_of l.link l.l-index l.e

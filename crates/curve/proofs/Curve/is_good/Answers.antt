@@ -4,7 +4,7 @@ use Rattle.base.specs.Pick.{pick}
 use Rattle.base.proofs.Tests.{tests}
 use Rattle.curve.specs.Tests.{goodb}
 use Rattle.curve.proofs.GoodLaws.{goodb_decides}
-use Rattle.curve.proofs.Ways.{room_of, bad_place, good_places}
+use Rattle.curve.proofs.Ways.{bad_place, good_places}
 use Rattle.curve.proofs.Curve.is_good.Goals as goal
 
 pub returns-then-self-lt-FASTEST_MIN : goal.returns-then-self-lt-FASTEST_MIN
@@ -27,4 +27,4 @@ pub returns-then-not-places_are_good : goal.returns-then-not-places_are_good
 returns-then-not-places_are_good c = goodb_decides _ _ (search (bad_place))
 
 pub returns : goal.returns
-returns c = goodb_decides _ _ (search (good_places, room_of))
+returns c = goodb_decides _ _ (search (good_places))

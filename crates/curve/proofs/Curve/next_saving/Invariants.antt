@@ -1,12 +1,9 @@
--- What the loop keeps, and its measure.
+-- What the loop keeps.
 use mathlib.Core.Path.{◌≡◌}
-use Prim.Native.Nat.{◌≤◌, ◌+◌, ◌-◌}
+use Prim.Native.Nat.{◌+◌}
 use Rattle.theory.specs.Sum.{sum}
 use Rattle.curve.specs.Curve.{length_at}
 use Rattle.curve.proofs.Curve.next_saving.Given as goal
 
 abbrev pub invariant-loop-k : goal.invariant-loop-k
-invariant-loop-k l = (l.k ≤ l.n) × (l.left + sum l.k (length_at l.self) ≡ l.initial.left)
-
-abbrev pub decreases-loop-k : goal.decreases-loop-k
-decreases-loop-k l = l.n - l.k
+invariant-loop-k l = l.left + sum l.k (length_at l.self) ≡ l.initial.left

@@ -1,12 +1,8 @@
--- What the loop keeps, and its measure.
+-- What the loop keeps.
 use mathlib.Core.Path.{◌≡◌}
-use Prim.Native.Nat.{◌≤◌, ◌-◌}
 use mathlib.Core.Bool.{true}
 use Rattle.curve.specs.Tests.{every, placeb}
 use Rattle.curve.proofs.Curve.places_are_good.Given as goal
 
 abbrev pub invariant-loop-k : goal.invariant-loop-k
-invariant-loop-k l = (l.k ≤ 4) × (every l.k (placeb l.self) ≡ true)
-
-abbrev pub decreases-loop-k : goal.decreases-loop-k
-decreases-loop-k l = 4 - l.k
+invariant-loop-k l = every l.k (placeb l.self) ≡ true

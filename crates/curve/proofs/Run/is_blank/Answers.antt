@@ -5,10 +5,10 @@ use Rattle.base.proofs.Tests.{tests}
 use Rattle.curve.specs.Tests.{blankb}
 use Rattle.curve.proofs.Run.is_blank.Goals as goal
 
-pub returns-then-self-ne0 : goal.returns-then-self-ne0
+pub returns-then-self-eq0 : goal.returns-then-self-eq0
 unfolding blankb pick
-returns-then-self-ne0 c = search tests
+returns-then-self-eq0 c = search tests
 
-pub returns : goal.returns
+pub returns-else-self-eq0 : goal.returns-else-self-eq0
 unfolding blankb pick
-returns c = search tests
+returns-else-self-eq0 c = search tests

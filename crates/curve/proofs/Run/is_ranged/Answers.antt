@@ -1,22 +1,16 @@
 -- `curve::Run::is_ranged` meets its contract.
 -- Assumes nothing.
+use Rattle.std.proofs.Common.{inl, inr}
 use Rattle.base.specs.Pick.{pick}
 use Rattle.base.proofs.Tests.{tests}
 use Rattle.curve.specs.Tests.{rangedb}
 use Rattle.curve.proofs.Run.is_ranged.Goals as goal
 
-pub returns-then-self-lt-LENGTH_MIN : goal.returns-then-self-lt-LENGTH_MIN
+pub returns-then-self-ge-SAVING_MIN : goal.returns-then-self-ge-SAVING_MIN
 unfolding rangedb pick
-returns-then-self-lt-LENGTH_MIN c = search tests
+returns-then-self-ge-SAVING_MIN c = search tests
 
-pub returns-then-self-gt-LENGTH_MAX : goal.returns-then-self-gt-LENGTH_MAX
+pub returns-else-self-ge-SAVING_MIN : goal.returns-else-self-ge-SAVING_MIN
 unfolding rangedb pick
-returns-then-self-gt-LENGTH_MAX c = search tests
-
-pub returns-then-self-lt-SAVING_MIN : goal.returns-then-self-lt-SAVING_MIN
-unfolding rangedb pick
-returns-then-self-lt-SAVING_MIN c = search tests
-
-pub returns : goal.returns
-unfolding rangedb pick
-returns c = search tests
+returns-else-self-ge-SAVING_MIN c =
+    elim c.if-self-ge-SAVING_MIN.either [ inl h ↦ search tests | inr h ↦ elim h [ inl k ↦ search tests | inr k ↦ search tests ] ]

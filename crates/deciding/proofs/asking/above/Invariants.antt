@@ -1,10 +1,6 @@
--- What the loop keeps, and its measure.
+-- What the loop keeps.
 use Rattle.deciding.proofs.asking.Asking.{Counted}
-use Prim.Native.Nat.{◌≤◌, ◌-◌}
 use Rattle.deciding.proofs.asking.above.Given as goal
 
 abbrev pub invariant-loop-i : goal.invariant-loop-i
-invariant-loop-i l = (l.i ≤ 4) × Counted l.net l.a l.x l.i l.n
-
-abbrev pub decreases-loop-i : goal.decreases-loop-i
-decreases-loop-i l = 4 - l.i
+invariant-loop-i l = Counted l.net l.a l.x l.i l.n

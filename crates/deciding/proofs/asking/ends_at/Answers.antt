@@ -1,7 +1,9 @@
 -- `asking::ends_at` meets its contract.
 -- Assumes nothing.
-use Rattle.deciding.proofs.asking.Asking.{ends_read}
+use mathlib.Core.Path.{refl}
+use Rattle.deciding.specs.Asking.{ends_in}
 use Rattle.deciding.proofs.asking.ends_at.Goals as goal
 
 pub returns : goal.returns
-returns c = search (ends_read)
+unfolding ends_in
+returns c = refl

@@ -1,10 +1,6 @@
--- What the loop keeps, and its measure.
-use Rattle.deciding.specs.Balancing.{WeighingIn}
-use Prim.Native.Nat.{◌≤◌, ◌-◌}
+-- What the loop keeps.
+use Rattle.deciding.specs.Balancing.{Weighing}
 use Rattle.deciding.proofs.balancing.weigh.Given as goal
 
 abbrev pub invariant-loop-a : goal.invariant-loop-a
-invariant-loop-a l = (l.a ≤ l.arcs) × WeighingIn l.net l.initial.work l.a l.work
-
-abbrev pub decreases-loop-a : goal.decreases-loop-a
-decreases-loop-a l = l.arcs - l.a
+invariant-loop-a l = Weighing l.net l.load l.a l.sum

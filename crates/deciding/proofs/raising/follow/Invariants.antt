@@ -1,10 +1,6 @@
--- What the loop keeps, and its measure.
-use Rattle.deciding.specs.Raising.{FollowedIn}
-use Prim.Native.Nat.{◌≤◌, ◌-◌}
+-- What the loop keeps.
+use Rattle.deciding.specs.Raising.{FollowingIn}
 use Rattle.deciding.proofs.raising.follow.Given as goal
 
-abbrev pub invariant-loop-k : goal.invariant-loop-k
-invariant-loop-k l = (l.k ≤ 130) × FollowedIn l.net l.due l.initial.work l.work
-
-abbrev pub decreases-loop-k : goal.decreases-loop-k
-decreases-loop-k l = 130 - l.k
+abbrev pub invariant-loop-a : goal.invariant-loop-a
+invariant-loop-a l = FollowingIn l.net l.load l.due l.initial.time l.time

@@ -1,25 +1,26 @@
 -- `raising::settle` meets its contract.
 -- Assumes nothing.
-use Rattle.deciding.proofs.raising.Raising.{settle_past, settle_placed, settle_bends, settle_early, settle_quiet, settle_source, settle_late, settle_raised}
+use borrow.Author.Rules.{rules}
+use Rattle.deciding.proofs.raising.Raising.{settle_early, settle_quiet, settle_node, settle_source, settle_late, settle_raised}
 use Rattle.deciding.proofs.raising.settle.Goals as goal
 
-pub returns-then-net-a : goal.returns-then-net-a
-returns-then-net-a c = search (settle_past)
+pub ask-requires-clause-early : goal.ask-requires-clause-early
+ask-requires-clause-early c = search (settle_early)
 
-pub ends_at-requires : goal.ends_at-requires
-ends_at-requires c = search (settle_placed)
-
-pub ask-r-requires : goal.ask-r-requires
-ask-r-requires c = record { bends_in = search (settle_bends); early = search (settle_early) }
-
-pub returns-then-r-ge130 : goal.returns-then-r-ge130
-returns-then-r-ge130 c = search (settle_quiet)
+pub returns-in_default : goal.returns-in_default
+returns-in_default c = search (settle_quiet)
 
 pub returns-then-r-eq128 : goal.returns-then-r-eq128
 returns-then-r-eq128 c = search (settle_source)
 
 pub returns-then-due-r : goal.returns-then-due-r
 returns-then-due-r c = search (settle_late)
+
+pub offset_bounds-time-r : goal.offset_bounds-time-r
+offset_bounds-time-r c = search (settle_node, rules)
+
+pub bounds-time-r : goal.bounds-time-r
+bounds-time-r c = search (settle_node)
 
 pub returns : goal.returns
 returns c = search (settle_raised)

@@ -1,10 +1,6 @@
--- What the loop keeps, and its measure.
+-- What the loop keeps.
 use Rattle.deciding.specs.Raising.{SweepingIn}
-use Prim.Native.Nat.{◌≤◌, ◌-◌}
 use Rattle.deciding.proofs.raising.sweep.Given as goal
 
 abbrev pub invariant-loop-a : goal.invariant-loop-a
-invariant-loop-a l = (l.a ≤ l.arcs) × SweepingIn l.net l.due l.initial.work l.a l.work l.r
-
-abbrev pub decreases-loop-a : goal.decreases-loop-a
-decreases-loop-a l = l.arcs - l.a
+invariant-loop-a l = SweepingIn l.net l.load l.due l.initial.time l.a l.time l.raised

@@ -1,10 +1,6 @@
--- What the loop keeps, and its measure.
-use Rattle.mainloop.proofs.judging.Scanning.{Scanning}
-use Prim.Native.Nat.{◌≤◌, ◌-◌}
+-- What the loop keeps.
+use Rattle.mainloop.specs.Judging.{ScanningIn}
 use Rattle.mainloop.proofs.judging.scan.Given as goal
 
 abbrev pub invariant-loop-a : goal.invariant-loop-a
-invariant-loop-a l = (l.a ≤ l.arcs) × Scanning l.net l.work l.most l.a l.slack
-
-abbrev pub decreases-loop-a : goal.decreases-loop-a
-decreases-loop-a l = l.arcs - l.a
+invariant-loop-a l = ScanningIn l.net l.work l.most l.a l.slack

@@ -1,12 +1,6 @@
--- What the loop keeps, and its measure.
-use Rattle.mainloop.specs.Lowering.{ShiftedIn}
-use lib.ListN.{length}
-use mathlib.Core.Path.{◌≡◌}
-use Prim.Native.Nat.{◌≤◌, ◌-◌}
+-- What the loop keeps.
+use Rattle.mainloop.specs.Lowering.{Shifted}
 use Rattle.mainloop.proofs.lowering.shift.Given as goal
 
 abbrev pub invariant-loop-v : goal.invariant-loop-v
-invariant-loop-v l = (l.v ≤ 130) × ((length l.work ≡ 968) × ShiftedIn l.initial.work l.d l.v l.work)
-
-abbrev pub decreases-loop-v : goal.decreases-loop-v
-decreases-loop-v l = 130 - l.v
+invariant-loop-v l = Shifted l.room l.d l.v l.initial.time l.time

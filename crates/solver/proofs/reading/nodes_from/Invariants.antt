@@ -1,11 +1,7 @@
--- What the loop keeps, and its measure.
-use Rattle.std.proofs.Common.{◌≡◌, ◌-◌, ◌≤◌}
-use Rattle.nets.specs.Sheet.{time_in}
+-- What the loop keeps.
+use Rattle.std.proofs.Common.{◌≡◌}
 use Rattle.solver.specs.Reading.{nodes_from}
 use Rattle.solver.proofs.reading.nodes_from.Given as goal
 
 abbrev pub invariant-loop-k : goal.invariant-loop-k
-invariant-loop-k l = (l.k ≤ l.n) × (l.times ≡ nodes_from (time_in l.work) l.first l.k)
-
-abbrev pub decreases-loop-k : goal.decreases-loop-k
-decreases-loop-k l = l.n - l.k
+invariant-loop-k l = l.times ≡ nodes_from l.time l.first l.k

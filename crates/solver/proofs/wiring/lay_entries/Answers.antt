@@ -1,17 +1,16 @@
 -- `wiring::lay_entries` meets its contract.
 -- Assumes nothing.
-use Rattle.std.proofs.Common.{rules}
 use Rattle.solver.proofs.wiring.Laying.{laid_none, laid_done, entries_more, entry_in}
 use Rattle.solver.proofs.wiring.lay_entries.Goals as goal
 
 pub loop-p-init : goal.loop-p-init
-loop-p-init c = (search rules, laid_none _ _ _)
+loop-p-init c = laid_none _ _ _
 
-pub put-requires : goal.put-requires
-put-requires c = record { a_bound = search (entry_in); from_bound = search rules; to_bound = search rules }
+pub put-requires-clause-a_bound : goal.put-requires-clause-a_bound
+put-requires-clause-a_bound c = search (entry_in)
 
 pub loop-p-preserved : goal.loop-p-preserved
-loop-p-preserved c = (search rules, search (entries_more))
+loop-p-preserved c = search (entries_more)
 
 pub returns : goal.returns
 returns c = search (laid_done)

@@ -1,10 +1,6 @@
--- What the loop keeps, and its measure.
-use Rattle.std.proofs.Common.{◌-◌, ◌≤◌}
+-- What the loop keeps.
 use Rattle.solver.specs.Wiring.{LaidIn, entry_span}
 use Rattle.solver.proofs.wiring.lay_entries.Given as goal
 
 abbrev pub invariant-loop-p : goal.invariant-loop-p
-invariant-loop-p l = (l.p ≤ l.parts) × LaidIn l.first l.p entry_span l.initial.net l.net
-
-abbrev pub decreases-loop-p : goal.decreases-loop-p
-decreases-loop-p l = l.parts - l.p
+invariant-loop-p l = LaidIn l.first l.p entry_span l.initial.net l.net

@@ -1,10 +1,6 @@
--- What the loop keeps, and its measure.
-use Rattle.std.proofs.Common.{◌-◌, ◌≤◌}
+-- What the loop keeps.
 use Rattle.solver.specs.Wiring.{LaidIn, link_span}
 use Rattle.solver.proofs.wiring.lay_links.Given as goal
 
 abbrev pub invariant-loop-l : goal.invariant-loop-l
-invariant-loop-l l = (l.l ≤ l.b.links) × LaidIn l.b.parts l.l (link_span l.b) l.initial.net l.net
-
-abbrev pub decreases-loop-l : goal.decreases-loop-l
-decreases-loop-l l = l.b.links - l.l
+invariant-loop-l l = LaidIn l.b.parts l.l (link_span l.b) l.initial.net l.net

@@ -1,10 +1,6 @@
--- What the loop keeps, and its measure.
-use Rattle.std.proofs.Common.{◌-◌, ◌≤◌}
+-- What the loop keeps.
 use Rattle.solver.specs.Wiring.{LaidIn, part_span}
 use Rattle.solver.proofs.wiring.lay_parts.Given as goal
 
 abbrev pub invariant-loop-p : goal.invariant-loop-p
-invariant-loop-p l = (l.p ≤ l.b.parts) × LaidIn 0 l.p (part_span l.b) l.initial.net l.net
-
-abbrev pub decreases-loop-p : goal.decreases-loop-p
-decreases-loop-p l = l.b.parts - l.p
+invariant-loop-p l = LaidIn 0 l.p (part_span l.b) l.initial.net l.net

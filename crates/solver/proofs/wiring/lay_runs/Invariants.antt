@@ -1,10 +1,6 @@
--- What the loop keeps, and its measure.
-use Rattle.std.proofs.Common.{◌-◌, ◌≤◌}
-use Rattle.solver.specs.Wiring.{RunsIn}
+-- What the loop keeps.
+use Rattle.solver.specs.Wiring.{Runs}
 use Rattle.solver.proofs.wiring.lay_runs.Given as goal
 
 abbrev pub invariant-loop-k : goal.invariant-loop-k
-invariant-loop-k l = (l.k ≤ 256) × RunsIn l.b l.k l.initial.net l.net
-
-abbrev pub decreases-loop-k : goal.decreases-loop-k
-decreases-loop-k l = 256 - l.k
+invariant-loop-k l = Runs l.b l.k l.length l.saving

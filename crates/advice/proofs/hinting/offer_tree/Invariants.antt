@@ -1,9 +1,0 @@
--- What the loop keeps, and its measure.
-use Prim.Native.Nat.{◌≤◌, ◌-◌}
-use Rattle.advice.proofs.hinting.offer_tree.Given as goal
-
-abbrev pub invariant-loop-k : goal.invariant-loop-k
-invariant-loop-k l = l.k ≤ 130
-
-abbrev pub decreases-loop-k : goal.decreases-loop-k
-decreases-loop-k l = 130 - l.k

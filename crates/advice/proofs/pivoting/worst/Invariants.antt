@@ -1,9 +1,0 @@
--- What the loop keeps, and its measure.
-use Prim.Native.Nat.{◌-◌, ◌≤◌}
-use Rattle.advice.proofs.pivoting.worst.Given as goal
-
-abbrev pub invariant-loop-a : goal.invariant-loop-a
-invariant-loop-a l = l.a ≤ 449
-
-abbrev pub decreases-loop-a : goal.decreases-loop-a
-decreases-loop-a l = 449 - l.a

@@ -1,5 +1,0 @@
-use Rattle.fields.proofs.CurveWriting.{run_wrote}
-use Rattle.fields.proofs.write_run.Goals as goal
-
-pub returns : goal.returns
-returns c = search (run_wrote)

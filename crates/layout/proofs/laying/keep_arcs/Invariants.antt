@@ -1,9 +1,0 @@
--- What the loop keeps, and its measure.
-use Rattle.std.proofs.Common.{◌-◌, ◌≤◌}
-use Rattle.layout.proofs.laying.keep_arcs.Given as goal
-
-abbrev pub invariant-loop-k : goal.invariant-loop-k
-invariant-loop-k l = l.k ≤ 448
-
-abbrev pub decreases-loop-k : goal.decreases-loop-k
-decreases-loop-k l = 448 - l.k

@@ -1,5 +1,0 @@
-use Rattle.orders.proofs.Writers.{three_counted}
-use Rattle.orders.proofs.link_size.Goals as goal
-
-pub returns : goal.returns
-returns c = search (three_counted)

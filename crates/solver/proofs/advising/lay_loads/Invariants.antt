@@ -1,9 +1,0 @@
--- What the loop keeps, and its measure.
-use Rattle.std.proofs.Common.{◌-◌, ◌≤◌}
-use Rattle.solver.proofs.advising.lay_loads.Given as goal
-
-abbrev pub invariant-loop-a : goal.invariant-loop-a
-invariant-loop-a l = l.a ≤ 448
-
-abbrev pub decreases-loop-a : goal.decreases-loop-a
-decreases-loop-a l = 448 - l.a
