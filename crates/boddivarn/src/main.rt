@@ -2,13 +2,11 @@
 // Each line is built on a page and written once.
 #![tactic(auto)]
 
+use board::Rule;
 use console::Out;
 use desk::{Desk, Tally};
 use refusal::{Answer, Refusal};
 use std::io::Result;
-
-// The program names rule A.
-const RULE_A: u32 = 0;
 
 fn main(rt: HostRuntime) -> Result<()> {
     let mut board = [0u8; 2048];
@@ -30,9 +28,9 @@ fn main(rt: HostRuntime) -> Result<()> {
     out.outcome()
 }
 
-// The board with its orders, and what is then held; or why nothing is.
+// The board under rule A, with its orders, and what is then held; or why nothing is.
 fn plan(out: &mut Out, board: &[u8], orders: &[u8], names: &[u8]) -> Answer {
-    let l = desk::load(desk::empty(), RULE_A, board, Tally::NONE);
+    let l = desk::load(desk::empty(), u32::from(Rule::A), board, Tally::NONE);
     l.answer?;
     let mut d = l.desk;
     let mut tally = l.tally;

@@ -1,18 +1,22 @@
 // The label of a line of a name sheet.
 use crate::Talk;
 
-// No label is empty: an empty stretch is refusal 20.
 pub(crate) fn label(talk: &mut Talk) -> Option<()> {
-    let mut sheet = [0u8; 65536];
-    let line = talk.number()?;
-    let count = talk.stretch(&mut sheet)?;
-    let label = names::label(&sheet[..count], line as usize);
+    let mut buf = [0u8; 65536];
+    let line = talk.number()? as usize;
+    let count = talk.stretch(&mut buf)?;
+    let sheet = &buf[..count];
     let out = &mut talk.out;
-    if label.is_empty() {
-        out.text(b"label no 20 -");
-    } else {
-        out.text(b"label no 0 ");
-        out.hex(label, label.len());
+    match names::label_answer(sheet, line) {
+        Ok(()) => {
+            let label = names::label(sheet, line);
+            out.text(b"label no 0 ");
+            out.hex(label, label.len());
+        }
+        Err(refusal) => {
+            out.number(b"label no ", u8::from(refusal.why) as u64);
+            out.text(b" -");
+        }
     }
     out.end_line();
     Some(())

@@ -33,12 +33,11 @@ fn put_write(out: &mut Out, d: Desk, size: usize)
     out.end_line();
 }
 
-// How long the held board's file is: a buffer of no bytes is told.
+// How long the held board's file is.
 fn bytes_needed(d: Desk) -> usize {
-    match desk::write(d, &mut []) {
-        Ok(()) => 0,
-        Err(refusal) => refusal.place,
-    }
+    d.held
+        .and_then(|held| design_write::design_size(held.board))
+        .unwrap_or(0)
 }
 
 // The held board's file in hex digits.

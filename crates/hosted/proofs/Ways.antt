@@ -12,7 +12,8 @@ use Rattle.base.proofs.Cases.{finished}
 use Rattle.std.specs.Prelude.{Option, Some, None, MatchOption}
 use Rattle.curve.specs.declared.Curve.{Curve}
 use Rattle.curve.specs.Answers.{power_at_of}
-use Rattle.board.specs.Board.{WellFormed, curve_at}
+use Rattle.board.specs.declared.Rule.TheVariants.{A}
+use Rattle.board.specs.Board.{WellFormed, curve_at, rule_number}
 use Rattle.budget.proofs.BudgetLaws.{holds_once}
 use Rattle.solver.specs.declared.Solved.{Solved}
 use Rattle.solver.specs.Solve.{Sound}
@@ -30,8 +31,8 @@ use Rattle.desk.specs.Empty.{empty_desk}
 use Rattle.desk.specs.Load.{no_tally, LoadSaid}
 use Rattle.hosted.specs.Hosted.{LoadOf, total_in, TotalOf, LastOf, never, found, bytes_from, Orders, ended, made, OrdersOf, watts_of, powers_to, PowersOf, past, powers}
 
-pub load_of : (s : List ℕ) (e : Desk) (l : Loaded) → e ≡ empty_desk → LoadSaid e 0 s no_tally l → LoadOf s l.desk
-load_of s e l is said = record { load = l; said = rw is at said; desk = refl }
+pub load_of : (s : List ℕ) (e : Desk) (rule : ℕ) (l : Loaded) → e ≡ empty_desk → rule ≡ rule_number A → LoadSaid e rule s no_tally l → LoadOf s l.desk
+load_of s e rule l is named said = record { load = l; said = rw (is, named) at said; desk = refl }
 
 pub total_held : (d : Desk) (h : Held) → d.held ≡ Some h → h.budget.total.0 ≡ total_in d
 total_held d h is = rw is

@@ -1,6 +1,6 @@
 -- The ways through the functions that answer a question of a held board, in plain values.
 -- Assumes nothing.
-use mathlib.Core.Path.{◌≡◌, refl, sym, ◌∙◌}
+use mathlib.Core.Path.{◌≡◌, refl, sym, ap, ◌∙◌}
 use mathlib.Core.Bool.{Bool}
 use Prim.Native.Nat.{ℕ, ◌≤◌, ◌<◌}
 use native.Mathlib.Omega.{arith}
@@ -25,11 +25,10 @@ use Rattle.desk.specs.declared.Held.{Held}
 use Rattle.desk.specs.declared.Desk.{Desk}
 use Rattle.desk.specs.Held.{Standing, ◌>>=◌, held_in}
 use Rattle.desk.specs.Order.{part_on}
-use Rattle.desk.proofs.Tried.{exits, same_ok, in_some, went, passes, standing_kept}
+use Rattle.desk.proofs.Tried.{never, exits, same_ok, same_err, in_some, went, passes, standing_kept}
 use Rattle.questions.specs.declared.Marked.{Marked}
-use Rattle.questions.specs.declared.PartHeld.{PartHeld}
 use Rattle.questions.specs.declared.LinkHeld.{LinkHeld}
-use Rattle.questions.specs.Tried.{part_tried, Said}
+use Rattle.questions.specs.Tried.{part_tried, Said, PlaceSaid}
 use Rattle.questions.specs.Sets.{counted_of, ConeGiven, ConeSaid, CriticalIn, FamilySaid}
 use Rattle.questions.specs.Numbers.{PowerSaid, part_of, PartSaid}
 use Rattle.questions.specs.Links.{link_told, LinkSaid}
@@ -48,6 +47,17 @@ pub put_so :
     ((h : Held) → Ok h ≡ a → Standing d → Is h r → Is' h r) → Said a d Is r → Said a d Is' r
 put_so d (Err e) Is Is' r so said = said
 put_so d (Ok h) Is Is' r so said = λ st. so h refl st (said st)
+
+-- a question that goes by the part's place is turned away as the place is
+pub off_place :
+    {R : Type 0} (d : Desk) (p : ℕ) (Is : Held → Answer R → Type 0) (r : Answer R) (e : Refusal) →
+    PlaceSaid d p (Err e) → IsErrAnd r (λ x. x ≡ e) → Said (part_tried d p) d Is r
+unfolding PlaceSaid
+off_place d p Is r e place exit = off (part_tried d p) place
+  where
+    off : (a : Answer Held) → Said a d (λ held x. x ≡ Ok held) (Err e) → Said a d Is r
+    off (Err x) is = exits r e exit ∙ ap Err (same_err is)
+    off (Ok h) is = λ st. never (is st)
 
 -- ---- questions of a part
 module _ (d : Desk) (p : ℕ) (h : Held) (is : Ok h ≡ part_tried d p) where
@@ -80,17 +90,17 @@ module _ (d : Desk) (p : ℕ) (h : Held) (is : Ok h ≡ part_tried d p) where
     unfolding PowerSaid
     power_given so = rw (← is) (λ st. so ((formed st).curves p here.1))
 
-    pub power_past : 64 ≤ p → PowerSaid d p delay r
-    unfolding PowerSaid
-    power_past far = rw (← is) (past far)
-
   pub part_given : PartSaid d p (Ok (part_of h.budget p))
   unfolding PartSaid
   part_given = rw (← is) (λ st. refl)
 
-  pub part_past : (r : Answer PartHeld) → 64 ≤ p → PartSaid d p r
-  unfolding PartSaid
-  part_past r far = rw (← is) (past far)
+  pub place_given : PlaceSaid d p (Ok h)
+  unfolding PlaceSaid
+  place_given = rw (← is) (λ st. refl)
+
+  pub place_past : (r : Answer Held) → 64 ≤ p → PlaceSaid d p r
+  unfolding PlaceSaid
+  place_past r far = rw (← is) (past far)
 
 -- a cone of a board without a fault
 pub cone_formed :

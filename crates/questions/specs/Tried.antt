@@ -19,3 +19,7 @@ part_tried d p = do
 abbrev pub Said : {R : Type 0} → Answer Held → Desk → (Held → Answer R → Type 0) → Answer R → Type 0
 Said (Err e) d Is r = r ≡ Err e
 Said (Ok held) d Is r = Standing d → Is held r
+
+-- what a question that goes by the part's place is asked of: that, on a desk that stands
+unfoldable pub PlaceSaid : Desk → ℕ → Answer Held → Type 0
+PlaceSaid d p r = Said (part_tried d p) d (λ held r. r ≡ Ok held) r

@@ -1,10 +1,10 @@
 // Questions about a held board. Any desk may be asked and any number asked for: 11 where no board is held, 17 where the board has no such part.
 #![tactic(auto)]
 
-ghost use Rattle.std.specs.Prelude.{◌≡◌};
+ghost use Rattle.std.specs.Prelude.{◌≡◌, ◌<◌, Ok, IfOk};
 ghost use Rattle.curve.specs.Curve.{Good};
 ghost use Rattle.curve.specs.Answers.{power_at_of};
-ghost use Rattle.questions.specs.Tried.{part_tried};
+ghost use Rattle.questions.specs.Tried.{part_tried, PlaceSaid};
 ghost use Rattle.questions.specs.Sets.{counted_of, ConeSaid, UpstreamSaid, DownstreamSaid, FamilySaid};
 ghost use Rattle.questions.specs.Links.{LinkSaid};
 ghost use Rattle.questions.specs.Numbers.{PowerSaid, PartSaid, whole_asked};
@@ -69,6 +69,18 @@ fn part_tried(d: Desk, part: usize) -> Answer<Held>
     Err(Why::NoPart.at(part))
 }
 
+// The same, where the part has a place in the arrays. No board that a load gave has a part 64.
+fn place_on(d: Desk, part: usize) -> Answer<Held>
+    ensures said { PlaceSaid d part result }
+    ensures placed { IfOk result (λ held. (Ok held ≡ part_tried d part) × (part < 64)) }
+{
+    let held = part_tried(d, part)?;
+    if 64 <= part {
+        return Err(Why::NoPart.at(part));
+    }
+    Ok(held)
+}
+
 // A set with the number of parts marked.
 #[tactic(auto, unfolding(crate::specs::Sets::counted_of))]
 fn counted(set: u64) -> Marked
@@ -123,25 +135,19 @@ fn power_on(c: Curve, delay: usize) -> Answer<Microwatts>
     c.power_at(Ticks(ticks))
 }
 
-// The power of a part at a delay: 11, 17, 19. No board that a load gave has a part 64.
+// The power of a part at a delay: 11, 17, 19.
 pub fn power(d: Desk, part: usize, delay: usize) -> Answer<Microwatts>
     ensures { PowerSaid d part delay result }
 {
-    let held = part_tried(d, part)?;
-    if 64 <= part {
-        return Err(Why::NoPart.at(part));
-    }
+    let held = place_on(d, part)?;
     power_on(held.board.curve[part], delay)
 }
 
-// When a part starts and ends in the held budget, its delay and its power. No board that a load gave has a part 64.
+// When a part starts and ends in the held budget, its delay and its power.
 pub fn part(d: Desk, part: usize) -> Answer<PartHeld>
     ensures { PartSaid d part result }
 {
-    let held = part_tried(d, part)?;
-    if 64 <= part {
-        return Err(Why::NoPart.at(part));
-    }
+    let held = place_on(d, part)?;
     let b = held.budget;
     Ok(PartHeld {
         start: b.start[part],

@@ -3,6 +3,7 @@
 
 ghost use Rattle.tally.specs.Lent.{LentLoad, LentOrder, SessionSaid};
 
+use board::Rule;
 use desk::{Desk, Loaded, Ordered, Tally};
 
 // Loads a board under the rule that is named, with the tally lent: an accepted load sets it to zero where it stands, a refused one leaves it.
@@ -24,9 +25,6 @@ pub fn order(d: Desk, bytes: &[u8], t: &mut Tally) -> Ordered
     o
 }
 
-// A session's load names rule A.
-const RULE_A: u32 = 0;
-
 // What a session comes to: its last order, and the tally that was lent.
 #[derive(Clone, Copy)]
 pub struct SessionEnd {
@@ -34,12 +32,12 @@ pub struct SessionEnd {
     pub tally: Tally,
 }
 
-// A board loaded and two orders tried, on one tally that is lent to each in turn.
+// A board loaded under rule A and two orders tried, on one tally that is lent to each in turn.
 pub fn session(file: &[u8], first: &[u8], second: &[u8]) -> SessionEnd
     ensures { SessionSaid file.now first.now second.now result }
 {
     let mut t = Tally::NONE;
-    let l = load(desk::empty(), RULE_A, file, &mut t);
+    let l = load(desk::empty(), u32::from(Rule::A), file, &mut t);
     let a = order(l.desk, first, &mut t);
     let b = order(a.desk, second, &mut t);
     SessionEnd { last: b, tally: t }

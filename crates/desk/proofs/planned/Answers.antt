@@ -10,8 +10,8 @@ returns-in_err-board c = search (plan_unread, c.in_ok-named.ensures, c.in_err-bo
 pub solve_formed-requires : goal.solve_formed-requires
 solve_formed-requires c = search (plan_formed, c.in_ok-named.ensures, c.in_ok-board.ensures)
 
-pub returns-in_err-solved : goal.returns-in_err-solved
-returns-in_err-solved c = search (plan_turned, c.in_ok-named.ensures, c.in_ok-board.ensures, c.in_err-solved.ensures)
+pub returns-in_err-budget : goal.returns-in_err-budget
+returns-in_err-budget c = search (plan_turned, c.in_ok-named.ensures, c.in_ok-board.ensures, c.in_err-budget.ensures)
 
 pub returns : goal.returns
-returns c = search (plan_sound, c.in_ok-named.ensures, c.in_ok-board.ensures, c.in_ok-solved.ensures)
+returns c = search (plan_sound, c.in_ok-named.ensures, c.in_ok-board.ensures, c.in_ok-budget.ensures)
