@@ -1,4 +1,4 @@
-// A board as the sheet that the crate `advice` reads (its room `sheet`), and what is known before a load or an order: so the benchmark can ask for the
+// A board as the sheet that `hosted` reads a network from (`net_on`), and what is known before a load or an order: so the benchmark can ask for the
 // same advice as the solver does, and see whether it was taken.
 #pragma once
 #include <array>
