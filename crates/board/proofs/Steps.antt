@@ -26,7 +26,7 @@ use Rattle.board.specs.declared.Rule.{Rule}
 use Rattle.board.specs.declared.Rule.TheVariants.{A, B}
 use Rattle.board.specs.declared.Link.{Link}
 use Rattle.board.specs.declared.Board.{Board}
-use Rattle.board.specs.Board.{plain_link, no_link, blank_curve, link_at, curve_at, rule_number, rule_named, usable_under, usable}
+use Rattle.board.specs.Board.{plain_link, no_link, blank_curve, link_at, curve_at, rule_number, rule_of, rule_named, usable_under, usable}
 use Rattle.board.specs.Tests.{blank_curves, blank_links, empty_of, below_of, link_held, link_good, link_test, links_test, curve_good, curve_test, curves_test}
 
 -- ---- one curve more, one link more: each place passed so far
@@ -121,6 +121,14 @@ module _ (n : ℕ) where
   pub is_b : n ≡ 1 → Ok B ≡ rule_named n
   unfolding rule_named pick
   is_b e = rw e
+
+  pub of_a : n ≡ 0 → A ≡ rule_of n
+  unfolding rule_of pick
+  of_a e = rw (eq-eqb n 0 e)
+
+  pub of_b : (n ≡ 0 → ⊥) → B ≡ rule_of n
+  unfolding rule_of pick
+  of_b ne = rw (ne_eqb n 0 ne)
 
   pub is_none : (e : Refusal) → (n ≡ 0 → ⊥) → (n ≡ 1 → ⊥) → e ≡ refusal_at NoRule 0 → Err e ≡ rule_named n
   unfolding rule_named pick

@@ -12,31 +12,49 @@ use Rattle.refusal.specs.declared.Refusal.{Refusal}
 use Rattle.board.specs.declared.Rule.{Rule}
 use Rattle.board.specs.declared.Rule.TheVariants.{A, B}
 use Rattle.board.specs.declared.Board.{Board}
-use Rattle.board.specs.Board.{WellFormed, rule_number, rule_named, usable_under, usable, under_rule}
+use Rattle.board.specs.Board.{WellFormed, rule_number, rule_of, rule_named, usable_under, usable, under_rule}
 
 -- ---- numbers
 pub number_to : (r : Rule) → rule_number r ≤ 1
 number_to A = omega arith
 number_to B = omega arith
 
-pub rule_back : (r : Rule) → rule_named (rule_number r) ≡ Ok r
-unfolding rule_named pick
+pub rule_back : (r : Rule) → rule_of (rule_number r) ≡ r
+unfolding rule_of pick
 rule_back A = refl
 rule_back B = refl
 
+pub number_back : (n : ℕ) → n ≤ 1 → n ≡ rule_number (rule_of n)
+unfolding rule_of pick
+number_back zero h = refl
+number_back (suc zero) h = refl
+number_back (suc (suc n)) h = absurd (omega arith)
+
+-- of these two it is the rule that is named
+pub named_of : (n : ℕ) → n ≤ 1 → rule_named n ≡ Ok (rule_of n)
+unfolding rule_named rule_of pick
+named_of zero h = refl
+named_of (suc zero) h = refl
+named_of (suc (suc n)) h = absurd (omega arith)
+
 -- a number that is taken is the number of its rule, and one that is refused is no rule's
-pub number_back : (n : ℕ) (r : Rule) → Ok r ≡ rule_named n → n ≡ rule_number r
+pub named_back : (r : Rule) → rule_named (rule_number r) ≡ Ok r
 unfolding rule_named pick
-number_back zero A e = refl
-number_back zero B e = cc
-number_back (suc zero) A e = cc
-number_back (suc zero) B e = refl
-number_back (suc (suc n)) r e =
+named_back A = refl
+named_back B = refl
+
+pub number_named : (n : ℕ) (r : Rule) → Ok r ≡ rule_named n → n ≡ rule_number r
+unfolding rule_named pick
+number_named zero A e = refl
+number_named zero B e = cc
+number_named (suc zero) A e = cc
+number_named (suc zero) B e = refl
+number_named (suc (suc n)) r e =
     let past = rw (ne_eqb (suc (suc n)) 0 (λ h. omega arith), ne_eqb (suc (suc n)) 1 (λ h. omega arith)) at e in
     cc
 
 pub no_number : (n : ℕ) (why : Refusal) → Err why ≡ rule_named n → (r : Rule) → n ≢ rule_number r
-no_number n why e r is = let back = rule_back r in let z : ◌≡◌ {A = Answer Rule} (Err why) (Ok r) = e ∙ ap rule_named is ∙ back in cc
+no_number n why e r is = let back = named_back r in let z : ◌≡◌ {A = Answer Rule} (Err why) (Ok r) = e ∙ ap rule_named is ∙ back in cc
 
 pub refused_22 : (n : ℕ) (why : Refusal) → Err why ≡ rule_named n → why ≡ refusal_at (by 22) 0
 unfolding rule_named pick

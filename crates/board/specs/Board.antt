@@ -38,6 +38,10 @@ abbrev pub rule_number : Rule → ℕ
 rule_number A = 0
 rule_number B = 1
 
+-- of a number that is one of these two; any other gives B
+unfoldable pub rule_of : ℕ → Rule
+rule_of number = pick (eqb number 0) A B
+
 -- refusal 22: "a rule that is neither A nor B"
 unfoldable pub rule_named : ℕ → Answer Rule
 rule_named number = pick (eqb number 0) (Ok A) (pick (eqb number 1) (Ok B) (refusal 22 0))

@@ -2,7 +2,7 @@
 #![tactic(auto)]
 
 ghost use Rattle.std.specs.Prelude.{◌≡◌, ◌<◌};
-ghost use Rattle.board.specs.Board.{plain_link, turned_link, delay_of, blank_curve, rule_number, rule_named, usable_under, usable, WellFormed};
+ghost use Rattle.board.specs.Board.{plain_link, turned_link, delay_of, blank_curve, rule_number, rule_of, rule_named, usable_under, usable, WellFormed};
 ghost use Rattle.board.specs.Tests.{Decides, empty_of, below_of, link_held, link_good, links_test, curve_good, curves_test};
 
 use curve::{Curve, Microwatts, Ticks};
@@ -110,6 +110,13 @@ impl TryFrom<u32> for Rule {
             _ => Err(Why::NoRule.at(0)),
         }
     }
+}
+
+// The rule that has a number; a number that is none gives B.
+pub fn rule_of(number: u32) -> Rule
+    ensures { result ≡ rule_of number }
+{
+    if number == 0 { Rule::A } else { Rule::B }
 }
 
 // The ticks of a deadline that a path may take.

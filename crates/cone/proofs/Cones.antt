@@ -6,11 +6,11 @@ use Rattle.marks.specs.Marks.{bit, one_of}
 use Rattle.marks.proofs.Bits.{mark_below, bit_one_same, bit_one_other, one_fits, exactly_once}
 use Rattle.board.specs.declared.Link.{Link}
 use Rattle.board.specs.declared.Board.{Board}
-use Rattle.board.specs.Board.{no_link, link_at, turned_link, Linked, WellFormed}
+use Rattle.board.specs.Board.{Linked, WellFormed}
 use Rattle.board.specs.Leads.{Leads, one, more, Reach, here, by}
 use Rattle.cone.specs.Cone.{Downstream, Upstream}
-use Rattle.cone.specs.Sweeps.{rows_of, forth_rows, back_rows, cone_of, downstream_of, upstream_of}
-use Rattle.cone.proofs.Marked.{rows_forth, rows_back, forth_fit, back_fit, row_linked, column_linked, linked_row, linked_column}
+use Rattle.cone.specs.Sweeps.{rows_of, columns_of, forth_rows, back_rows, cone_of, downstream_of, upstream_of}
+use Rattle.cone.proofs.Marked.{rows_forth, columns_back, forth_fit, back_fit, row_linked, column_linked, linked_row, linked_column}
 use Rattle.cone.proofs.Sweeping.{Reached, start, step, reached_fits, reached_marked, reached_all}
 
 -- ---- paths
@@ -119,12 +119,11 @@ module _ (b : Board) (p : ℕ) where
   up_down q few d u down up h = down.all q (few, (up.marked p h).1)
 
 -- ---- `downstream`, `upstream`
-module _ (b : Board) (p n r : ℕ) (cut : n ≡ min b.links 256) (long : length b.link ≡ 256) where
-  pub downstream_said : r ≡ cone_of (rows_of (take n b.link)) p → WellFormed b → Downstream b p r
+module _ (b : Board) (p n r : ℕ) (rows : List ℕ) (cut : n ≡ min b.links 256) (long : length b.link ≡ 256) where
+  pub downstream_said : rows ≡ rows_of (take n b.link) → r ≡ cone_of rows p → WellFormed b → Downstream b p r
   unfolding downstream_of
-  downstream_said e ok = rw (e, rows_forth b n cut long) (downstream_is b ok p)
+  downstream_said made e ok = rw (e, made, rows_forth b n cut long) (downstream_is b ok p)
 
-  pub upstream_said : (back : List Link) → length back ≡ 256 → ((l : ℕ) → l < 256 → get_or back l no_link ≡ turned_link (link_at b l))
-      → r ≡ cone_of (rows_of (take n back)) p → WellFormed b → Upstream b p r
+  pub upstream_said : rows ≡ columns_of (take n b.link) → r ≡ cone_of rows p → WellFormed b → Upstream b p r
   unfolding upstream_of
-  upstream_said back room each e ok = rw (e, rows_back b n cut long back room each) (upstream_is b ok p)
+  upstream_said made e ok = rw (e, made, columns_back b n cut long) (upstream_is b ok p)

@@ -6,29 +6,27 @@ use Rattle.marks.specs.Marks.{bit}
 use Rattle.marks.proofs.Rows.{Entry, marks_fit, mark_entry, entry_mark, marks_alike}
 use Rattle.board.specs.declared.Link.{Link}
 use Rattle.board.specs.declared.Board.{Board}
-use Rattle.board.specs.Board.{no_link, link_at, turned_link, Linked, WellFormed}
-use Rattle.cone.specs.Sweeps.{rows_of, forth_rows, back_rows}
+use Rattle.board.specs.Board.{no_link, link_at, Linked, WellFormed}
+use Rattle.cone.specs.Sweeps.{rows_of, columns_of, forth_rows, back_rows}
 
 -- ---- the links as the code passes them on
 module _ (b : Board) (n : ℕ) (cut : n ≡ min b.links 256) (long : length b.link ≡ 256) where
-  held_long : (link : List Link) → length link ≡ 256 → length (take n link) ≡ n
-  held_long link l = length-take-le n link (omega arith)
+  held_long : length (take n b.link) ≡ n
+  held_long = length-take-le n b.link (omega arith)
+
+  leaves : (l : ℕ) → l < n → (get_or (take n b.link) l no_link).from ≡ (link_at b l).from
+  leaves l h = ap (λ (x : Link). x.from) (get_or-take n b.link l no_link h)
+
+  enters : (l : ℕ) → l < n → (get_or (take n b.link) l no_link).to ≡ (link_at b l).to
+  enters l h = ap (λ (x : Link). x.to) (get_or-take n b.link l no_link h)
 
   pub rows_forth : rows_of (take n b.link) ≡ forth_rows b
   unfolding rows_of forth_rows
-  rows_forth =
-      rw (held_long b.link long, ← cut)
-      (marks_alike _ _ _ _ _ n (λ l h. ap (λ (x : Link). x.from) (get_or-take n b.link l no_link h)) (λ l h. ap (λ (x : Link). x.to) (get_or-take n b.link l no_link h)))
+  rows_forth = rw (held_long, ← cut) (marks_alike _ _ _ _ _ n leaves enters)
 
-  module _ (back : List Link) (room : length back ≡ 256) (each : (l : ℕ) → l < 256 → get_or back l no_link ≡ turned_link (link_at b l)) where
-    at : (l : ℕ) → l < n → get_or (take n back) l no_link ≡ turned_link (link_at b l)
-    at l h = get_or-take n back l no_link h ∙ each l (omega arith)
-
-    pub rows_back : rows_of (take n back) ≡ back_rows b
-    unfolding rows_of back_rows
-    rows_back =
-        rw (held_long back room, ← cut)
-        (marks_alike _ _ _ _ _ n (λ l h. ap (λ (x : Link). x.from) (at l h)) (λ l h. ap (λ (x : Link). x.to) (at l h)))
+  pub columns_back : columns_of (take n b.link) ≡ back_rows b
+  unfolding columns_of back_rows
+  columns_back = rw (held_long, ← cut) (marks_alike _ _ _ _ _ n enters leaves)
 
 -- ---- the rows of a board
 abbrev any : ℕ → Bool

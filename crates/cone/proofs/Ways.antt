@@ -9,9 +9,9 @@ use Rattle.board.specs.Board.{no_link}
 use Rattle.cone.specs.declared.Sweep.{Sweep}
 use Rattle.marks.specs.Rows.{with_mark, marks_up_to}
 use Rattle.marks.proofs.Rows.{marks_more}
-use Rattle.cone.specs.Sweeps.{rows_of, visited_of, step_of, sweep_up_to, reached_of, cone_of, on_loop_of}
+use Rattle.cone.specs.Sweeps.{rows_of, columns_of, visited_of, step_of, sweep_up_to, reached_of, cone_of, on_loop_of}
 
--- ---- `rows`
+-- ---- `rows`, `columns`
 module _ (link : List Link) where
   abbrev pub rows_to : ℕ → List ℕ
   rows_to k = marks_up_to (λ l. true) (λ l. (get_or link l no_link).from) (λ l. (get_or link l no_link).to) k
@@ -22,6 +22,16 @@ module _ (link : List Link) where
   pub rows_done : (s : List ℕ) (k : ℕ) → k ≤ length link → length link ≤ k → s ≡ rows_to k → s ≡ rows_of link
   unfolding rows_of
   rows_done s k l h is = finished rows_to l h is
+
+  abbrev pub columns_to : ℕ → List ℕ
+  columns_to k = marks_up_to (λ l. true) (λ l. (get_or link l no_link).to) (λ l. (get_or link l no_link).from) k
+
+  pub columns_more : (s r : List ℕ) (k : ℕ) → s ≡ columns_to k → r ≡ with_mark s (get_or link k no_link).to (get_or link k no_link).from → r ≡ columns_to (k + 1)
+  columns_more s r k is new = marks_more _ _ _ s r k is refl new
+
+  pub columns_done : (s : List ℕ) (k : ℕ) → k ≤ length link → length link ≤ k → s ≡ columns_to k → s ≡ columns_of link
+  unfolding columns_of
+  columns_done s k l h is = finished columns_to l h is
 
 -- ---- `visited`, `reached`
 pub visited_so : (s : Sweep) (p row d u t : ℕ) → d ≡ insert_of s.done p → u ≡ union_of s.todo row → t ≡ without_of u d → record { done = d; todo = t } ≡ visited_of s p row
@@ -56,9 +66,9 @@ module _ (rows : List ℕ) (from : ℕ) where
   sweep_done s k is l h = ap (λ (x : Sweep). x.done) (finished (sweep_up_to rows from) l h is)
 
 -- ---- `cone`, `on_loop`
-pub cone_so : (link : List Link) (rows : List ℕ) (p o r : ℕ) → rows ≡ rows_of link → o ≡ one_of p → r ≡ reached_of rows o → r ≡ cone_of (rows_of link) p
+pub cone_so : (rows : List ℕ) (p o r : ℕ) → o ≡ one_of p → r ≡ reached_of rows o → r ≡ cone_of rows p
 unfolding cone_of
-cone_so link rows p o r made eo er = rw (← made, ← eo) er
+cone_so rows p o r eo er = rw (← eo) er
 
 pub on_loop_so : (rows : List ℕ) (p r : ℕ) (t : Bool) → r ≡ reached_of rows (get_or rows p 0) → t ≡ has_of r p → t ≡ on_loop_of rows p
 unfolding on_loop_of

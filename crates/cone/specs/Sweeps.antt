@@ -13,7 +13,11 @@ use Rattle.cone.specs.declared.Sweep.{Sweep}
 unfoldable pub rows_of : List Link → List ℕ
 rows_of link = marks_up_to (λ l. true) (λ l. (get_or link l no_link).from) (λ l. (get_or link l no_link).to) (length link)
 
--- of a board, which holds no more than 256 links; turned back, where one leads from q to p
+-- turned back, where one leads from q to p
+unfoldable pub columns_of : List Link → List ℕ
+columns_of link = marks_up_to (λ l. true) (λ l. (get_or link l no_link).to) (λ l. (get_or link l no_link).from) (length link)
+
+-- of a board, which holds no more than 256 links; and turned back
 unfoldable pub forth_rows : Board → List ℕ
 forth_rows b = marks_up_to (λ l. true) (λ l. (link_at b l).from) (λ l. (link_at b l).to) (min b.links 256)
 

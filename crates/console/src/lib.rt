@@ -10,7 +10,7 @@ use std::io::{Error, Read, Result, Stdout, Write};
 use std::rt::Files;
 use std::str;
 
-const PAGE: usize = 65536;
+pub const PAGE: usize = 65536;
 
 // ---- files
 // The first bytes of a file, as many as the buffer holds. A file that cannot be read is read as empty, and no path but text names one.

@@ -1,6 +1,6 @@
 -- Reading in steps: a fault stays, and a field's value is within its range.
 -- Assumes nothing.
-use mathlib.Core.Path.{◌≡◌, refl, ap}
+use mathlib.Core.Path.{◌≡◌, refl, sym, ap, ◌∙◌}
 use mathlib.Core.Bool.{Bool, true, false}
 use mathlib.Core.List.{List}
 use Prim.Native.Nat.{ℕ, zero, suc, ◌+◌, ◌-◌, ◌≤◌, ◌<◌}
@@ -14,6 +14,10 @@ use Rattle.groups.specs.declared.Read.{Read}
 use Rattle.groups.specs.Number.{number_at}
 use Rattle.groups.specs.Parse.{Parse, got}
 use Rattle.fields.specs.Parse.{and_then, repeat, ranged_at, field_at}
+
+-- two readings of a field that its contract allows are the same reading
+pub number_once : (s : List ℕ) (low high at : ℕ) (a b : Parse ℕ) → a ≡ field_at s low high at → b ≡ field_at s low high at → a ≡ b
+number_once s low high at a b is same = is ∙ sym same
 
 -- a step that ended well, and one that met a fault
 module _ {A : Type 0} (step : ℕ → A → ℕ → Parse A) (a : A) (at k : ℕ) where

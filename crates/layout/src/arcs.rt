@@ -59,15 +59,20 @@ struct Price {
 }
 
 impl Price {
+    // One run more, without a branch: each number is picked.
     fn add(&mut self, run: Run, load: u32) {
-        if load < run.saving {
-            self.over = self.over.wrapping_add(run.length);
-            self.more = run.saving - load;
-        } else if load == run.saving {
-            self.just = self.just.wrapping_add(run.length);
+        let Run { length, saving } = run;
+        let over = if load < saving { length } else { 0 };
+        let just = if load == saving { length } else { 0 };
+        let below = if saving < load { saving } else { 0 };
+        self.over = self.over.wrapping_add(over);
+        self.just = self.just.wrapping_add(just);
+        self.more = if load < saving {
+            saving - load
         } else {
-            self.below = self.below.max(run.saving);
-        }
+            self.more
+        };
+        self.below = self.below.max(below);
     }
 }
 

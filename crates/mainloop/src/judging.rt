@@ -25,7 +25,7 @@ fn arc_at(net: &Net, work: &Work, a: usize) -> Arc
 
 // Ticks that all save the same: from `begin` up to `end`. Past the last run the end is later than any time.
 #[derive(Clone, Copy)]
-pub(crate) struct Run {
+pub struct Run {
     pub begin: u32,
     pub end: u32,
     pub saving: u32,
@@ -66,7 +66,7 @@ fn run_at(net: &Net, a: usize, j: u32) -> Run
 
 // Node `node` can be labelled along arc `arc`, with this room.
 #[derive(Clone, Copy)]
-pub(crate) struct Label {
+pub struct Label {
     pub arc: usize,
     pub node: usize,
     pub room: u32,
@@ -74,7 +74,7 @@ pub(crate) struct Label {
 
 // What is seen at arcs: a label; or none, and the labelled nodes may go down by the slack.
 #[derive(Clone, Copy)]
-pub(crate) enum Sight {
+pub enum Sight {
     Label(Label),
     Slack(u32),
 }

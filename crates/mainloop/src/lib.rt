@@ -3,7 +3,7 @@
 #![tactic(auto)]
 
 pub mod crashing;
-mod judging;
+pub mod judging;
 mod labelling;
 mod lowering;
 mod pushing;

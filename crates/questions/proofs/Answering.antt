@@ -10,7 +10,7 @@ use Rattle.std.specs.Prelude.{Option, Some, None, Ok, Err, IsOkAnd, IsErrAnd}
 use Rattle.base.specs.Pick.{pick}
 use Rattle.refusal.specs.declared.Refusal.{Refusal}
 use Rattle.refusal.specs.declared.Why.TheVariants.{OffCurve}
-use Rattle.refusal.specs.Refusal.{Answer, refusal_at}
+use Rattle.refusal.specs.Refusal.{Answer, refusal_at, by}
 use Rattle.curve.specs.declared.Curve.{Curve}
 use Rattle.curve.specs.declared.Microwatts.{Microwatts}
 use Rattle.curve.specs.Curve.{Good, slowest_of}
@@ -121,17 +121,24 @@ power_wide c delay e wide is good =
     rw is (sym (power_at_past c delay past))
 
 -- ---- `link`
-module _ (d : Desk) (h : Held) (is : Ok h ≡ held_in d) (l : ℕ) where
+pub link_none : (d : Desk) (l : ℕ) (e : Refusal) → d.held ≡ None → e ≡ refusal_at (by 11) 0 → LinkSaid d l (Err e)
+unfolding LinkSaid
+link_none d l e is why = rw (is, why) refl
+
+module _ (d : Desk) (h : Held) (is : d.held ≡ Some h) (l : ℕ) where
+  told_held : Ok h ≡ held_in d
+  told_held = rw is refl
+
   pub link_past : h.board.links ≤ l → LinkSaid d l (Ok None)
   unfolding LinkSaid link_told pick
-  link_past past = rw (← is, le-ltb l h.board.links past) (λ st. refl)
+  link_past past = rw (← told_held, le-ltb l h.board.links past) (λ st. refl)
 
   pub link_wide : (r : Answer (Option LinkHeld)) → l < h.board.links → 256 ≤ l → LinkSaid d l r
   unfolding LinkSaid
   link_wide r here wide =
-      rw (← is) (λ st. absurd (let k = (standing_kept st (in_some d (sym is))).formed.links_to in omega (arith, k)))
+      rw (← told_held) (λ st. absurd (let k = (standing_kept st is).formed.links_to in omega (arith, k)))
 
   pub link_there : (t : Bool) → l < h.board.links → t ≡ critical_at h.board h.budget l →
       LinkSaid d l (Ok (Some (record { from = (link_at h.board l).from; to = (link_at h.board l).to; critical = t })))
   unfolding LinkSaid link_told pick
-  link_there t here e = rw (← is, lt-ltb l h.board.links here, e) (λ st. refl)
+  link_there t here e = rw (← told_held, lt-ltb l h.board.links here, e) (λ st. refl)

@@ -179,8 +179,10 @@ pub fn whole(d: Desk) -> Answer<WholeHeld>
 pub fn link(d: Desk, index: usize) -> Answer<Option<LinkHeld>>
     ensures { LinkSaid d index result }
 {
-    let held = d.held()?;
-    let b = held.board;
+    let Some(held) = &d.held else {
+        return Err(Why::NoBoard.at(0));
+    };
+    let b = &held.board;
     if b.links <= index {
         return Ok(None);
     }
@@ -191,6 +193,6 @@ pub fn link(d: Desk, index: usize) -> Answer<Option<LinkHeld>>
     Ok(Some(LinkHeld {
         from: l.from,
         to: l.to,
-        critical: kin::link_is_critical(b, held.budget, index),
+        critical: kin::link_is_critical(*b, held.budget, index),
     }))
 }
